@@ -1,0 +1,100 @@
+ghost use Rattle.std.specs.Prelude.{◌≡◌, ◌++◌, ◌∷◌, [], ◌<◌, length, IfOk, OnOk, OnErr, IsErr, ◌↔◌};
+ghost use Rattle.std.specs.Int.{w16, w32, w64, to_be_bytes};
+ghost use Rattle.fr_bytes.specs.Reading.{Moves, byte_at, piece_at, number_at};
+
+use super::refusals::TooFew;
+use std::marker::Model;
+
+/// A place in a list of bytes, from which numbers and pieces are read one after the other.
+///
+/// Contracts see it as the list of the bytes that are left. A read that finds too few bytes leaves it
+/// where it was. No call takes memory.
+#[derive(Debug, Drop)]
+pub struct Cur<'a> {
+    rest: &'a [u8],
+}
+
+impl<'a> Model for Cur<'a> {
+    ghost use Rattle.std.specs.Prelude.{List, ℕ};
+
+    ghost Value = { List ℕ };
+
+    ghost view = { λ c. c.rest.now };
+}
+
+impl<'a> Cur<'a> {
+    /// A cursor before the first of `bytes`.
+    pub fn new(bytes: &'a [u8]) -> Cur<'a>
+        ensures { result ≡ bytes.now }
+    {
+        Cur { rest: bytes }
+    }
+
+    /// How many bytes are left.
+    pub fn left(&self) -> usize
+        ensures { result ≡ length self.now }
+    {
+        self.rest.len()
+    }
+
+    /// The next `n` bytes. `TooFew` comes exactly where fewer are left.
+    pub fn take(&mut self, n: usize) -> Result<&'a [u8], TooFew>
+        ensures read { IfOk result (λ x. (length x.now ≡ n) × (self.old ≡ x.now ++ self.new)) }
+        ensures too_few { IsErr result ↔ (length self.old < n) }
+        ensures stays { OnErr result (self.new ≡ self.old) }
+        ensures reads { Moves (λ x. x.now) result self.old self.new (piece_at n self.old) }
+    {
+        if self.rest.len() < n {
+            return Err(TooFew);
+        }
+        let (taken, rest) = self.rest.split_at(n);
+        self.rest = rest;
+        Ok(taken)
+    }
+
+    /// The next byte. `TooFew` comes exactly where none is left.
+    pub fn u8(&mut self) -> Result<u8, TooFew>
+        ensures read { IfOk result (λ x. self.old ≡ x ∷ self.new) }
+        ensures too_few { IsErr result ↔ (length self.old < 1) }
+        ensures stays { OnErr result (self.new ≡ self.old) }
+        ensures reads { Moves (λ x. x) result self.old self.new (byte_at self.old) }
+    {
+        let taken = self.take(1)?;
+        Ok(taken[0])
+    }
+
+    /// The big-endian number of the next two bytes. `TooFew` comes exactly where fewer are left.
+    pub fn u16(&mut self) -> Result<u16, TooFew>
+        ensures read { IfOk result (λ x. self.old ≡ to_be_bytes w16 x ++ self.new) }
+        ensures too_few { IsErr result ↔ (length self.old < 2) }
+        ensures stays { OnErr result (self.new ≡ self.old) }
+        ensures reads { Moves (λ x. x) result self.old self.new (number_at w16 self.old) }
+    {
+        let taken = self.take(2)?;
+        Ok(u16::from_be_bytes([taken[0], taken[1]]))
+    }
+
+    /// The big-endian number of the next four bytes. `TooFew` comes exactly where fewer are left.
+    pub fn u32(&mut self) -> Result<u32, TooFew>
+        ensures read { IfOk result (λ x. self.old ≡ to_be_bytes w32 x ++ self.new) }
+        ensures too_few { IsErr result ↔ (length self.old < 4) }
+        ensures stays { OnErr result (self.new ≡ self.old) }
+        ensures reads { Moves (λ x. x) result self.old self.new (number_at w32 self.old) }
+    {
+        let taken = self.take(4)?;
+        Ok(u32::from_be_bytes([taken[0], taken[1], taken[2], taken[3]]))
+    }
+
+    /// The big-endian number of the next eight bytes. `TooFew` comes exactly where fewer are left.
+    pub fn u64(&mut self) -> Result<u64, TooFew>
+        ensures read { IfOk result (λ x. self.old ≡ to_be_bytes w64 x ++ self.new) }
+        ensures too_few { IsErr result ↔ (length self.old < 8) }
+        ensures stays { OnErr result (self.new ≡ self.old) }
+        ensures reads { Moves (λ x. x) result self.old self.new (number_at w64 self.old) }
+    {
+        let taken = self.take(8)?;
+        Ok(u64::from_be_bytes([
+            taken[0], taken[1], taken[2], taken[3], taken[4], taken[5], taken[6], taken[7],
+        ]))
+    }
+}
