@@ -1,0 +1,3 @@
+//! The laws of the roots. Each function has an empty body, and its contract is the law.
+
+pub mod history;
