@@ -37,22 +37,20 @@ part-pair d j texts more = rw (part-string d (suc j) texts, node_string-pair d j
 
 -- the same equations at a height written as in the code
 
-pub part-at_leaf : (d : List ℕ → List ℕ) (texts : List (List ℕ)) (text : List ℕ) → 0 < length texts → text ≡ get_or texts 0 text → part d 0 texts ≡ d (leaf_string text)
-unfolding part node_string
-part-at_leaf d [] text some here = absurd (omega arith)
-part-at_leaf d (first ∷ texts) text some here = ap (λ x. d (leaf_string x)) (sym here)
+pub node_string-at_leaf : (d : List ℕ → List ℕ) (texts : List (List ℕ)) (text : List ℕ) → 0 < length texts → text ≡ get_or texts 0 text → node_string d 0 texts ≡ leaf_string text
+unfolding node_string
+node_string-at_leaf d [] text some here = absurd (omega arith)
+node_string-at_leaf d (first ∷ texts) text some here = ap leaf_string (sym here)
 
-pub part-at_single : (d : List ℕ → List ℕ) (level : ℕ) (texts : List (List ℕ)) → 0 < level → length texts ≤ 2 ^ (level - 1) → part d level texts ≡ d (single_string (part d (level - 1) texts))
-part-at_single d zero texts above fits = absurd (omega arith)
-part-at_single d (suc j) texts above fits =
-    let below : suc j - 1 ≡ j = omega arith in
-    rw below (part-single d j texts (rw below at fits))
+pub node_string-at_single : (d : List ℕ → List ℕ) (level : ℕ) (texts : List (List ℕ)) → 0 < level → length texts ≤ 2 ^ (level - 1) → node_string d level texts ≡ single_string (part d (level - 1) texts)
+node_string-at_single d zero texts above fits = absurd (omega arith)
+node_string-at_single d (suc j) texts above fits =
+    let below : suc j - 1 ≡ j = omega arith in rw below (node_string-single d j texts (rw below at fits))
 
-pub part-at_pair : (d : List ℕ → List ℕ) (level : ℕ) (texts : List (List ℕ)) → 0 < level → 2 ^ (level - 1) < length texts → part d level texts ≡ d (pair_string (part d (level - 1) (take (2 ^ (level - 1)) texts)) (part d (level - 1) (drop (2 ^ (level - 1)) texts)))
-part-at_pair d zero texts above more = absurd (omega arith)
-part-at_pair d (suc j) texts above more =
-    let below : suc j - 1 ≡ j = omega arith in
-    rw below (part-pair d j texts (rw below at more))
+pub node_string-at_pair : (d : List ℕ → List ℕ) (level : ℕ) (texts : List (List ℕ)) → 0 < level → 2 ^ (level - 1) < length texts → node_string d level texts ≡ pair_string (part d (level - 1) (take (2 ^ (level - 1)) texts)) (part d (level - 1) (drop (2 ^ (level - 1)) texts))
+node_string-at_pair d zero texts above more = absurd (omega arith)
+node_string-at_pair d (suc j) texts above more =
+    let below : suc j - 1 ≡ j = omega arith in rw below (node_string-pair d j texts (rw below at more))
 
 -- the halves of a node fit below it
 pub halves-fit : (level n : ℕ) → 0 < level → n ≤ 2 ^ level → n - 2 ^ (level - 1) ≤ 2 ^ (level - 1)
@@ -185,6 +183,10 @@ root-take d texts v size within = root-prefix d (take size texts) texts v (take-
 pub root-length : (d : List ℕ → List ℕ) (texts : List (List ℕ)) → root d texts (length texts) ≡ root_of_all d texts
 unfolding root
 root-length d texts = ap (root_of_all d) (take_all (length texts) texts (omega arith))
+
+-- so the root of a version is the root of the last version of the list of its texts
+pub root-of_take : (d : List ℕ → List ℕ) (texts : List (List ℕ)) (v : ℕ) → root d (take v texts) (length (take v texts)) ≡ root d texts v
+root-of_take d texts v = root-length d (take v texts) ∙ sym (root-all d texts v)
 
 pub length-root : (d : List ℕ → List ℕ) → ((m : List ℕ) → IsDigest (d m)) → (texts : List (List ℕ)) (v : ℕ) → IsDigest (root d texts v)
 unfolding root root_of_all

@@ -1,1 +1,4 @@
+pub mod AccessLists
 pub mod HistoryLaws
+pub mod ListChanges
+pub mod Priorities

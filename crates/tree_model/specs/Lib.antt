@@ -1,1 +1,2 @@
+pub mod AccessList
 pub mod History
