@@ -1,0 +1,5 @@
+pub mod Parts
+pub mod Roles
+pub mod Kinds
+pub mod Spelling
+pub mod Reading

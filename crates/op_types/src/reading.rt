@@ -1,0 +1,296 @@
+ghost use Rattle.std.specs.Prelude.{◌≡◌, ℕ, List, Option, Some, IfOk, IsErrOf, length};
+ghost use Rattle.std.specs.Int.{w32, w64};
+ghost use Rattle.fr_bytes.specs.Reading.{Gives, GivesAll, piece_at, number_at, counted_at, times_at, all_of};
+ghost use Rattle.op_types.specs.Spelling.{no_root, SpellsOp, SpellsLeaf};
+ghost use Rattle.op_types.specs.Reading.{byte_within, number_within, long_within, limited_at, wrap_at, wraps_at, post_at, admit_at, remove_at, kind_of, kind_at, signature_at, signed_at, view_at, op_at, leaf_at};
+
+use crate::kind::{Kind, Wrap, Wraps};
+use crate::limits::*;
+use crate::op::{Leaf, Op};
+use crate::roles::{READER, WRITER};
+use crate::view::View;
+use fr_bytes::{Bytes, Cur, ReadRefusal, Sequence};
+use fr_digest::Dig;
+use std::alloc::Global;
+
+// ---- parts
+
+#[tactic(auto, unfolding(crate::specs::Reading::byte_within))]
+fn u8_within(cur: &mut Cur<'_>, low: u8, high: u8) -> Result<u8, ReadRefusal>
+    ensures { Gives (λ x. x) result cur.new (byte_within low high cur.old) }
+{
+    let x = cur.u8()?;
+    if x < low || high < x {
+        return Err(ReadRefusal::NotForm);
+    }
+    Ok(x)
+}
+
+#[tactic(auto, unfolding(crate::specs::Reading::number_within))]
+fn u32_within(cur: &mut Cur<'_>, low: u32, high: u32) -> Result<u32, ReadRefusal>
+    ensures { Gives (λ x. x) result cur.new (number_within low high cur.old) }
+{
+    let x = cur.u32()?;
+    if x < low || high < x {
+        return Err(ReadRefusal::NotForm);
+    }
+    Ok(x)
+}
+
+#[tactic(auto, unfolding(crate::specs::Reading::long_within))]
+fn u64_within(cur: &mut Cur<'_>, low: u64, high: u64) -> Result<u64, ReadRefusal>
+    ensures { Gives (λ x. x) result cur.new (long_within low high cur.old) }
+{
+    let x = cur.u64()?;
+    if x < low || high < x {
+        return Err(ReadRefusal::NotForm);
+    }
+    Ok(x)
+}
+
+/// A copy of 32 bytes.
+fn dig_of(bytes: &[u8]) -> Dig
+    requires { length bytes.now ≡ 32 }
+    ensures { result ≡ bytes.now }
+{
+    let mut dig = [0; 32];
+    dig.copy_from_slice(bytes);
+    dig
+}
+
+fn dig_at(cur: &mut Cur<'_>) -> Result<Dig, ReadRefusal>
+    ensures { Gives (λ x. x) result cur.new (piece_at 32 cur.old) }
+{
+    let bytes = cur.take(32)?;
+    Ok(dig_of(bytes))
+}
+
+/// The bytes behind their number.
+#[tactic(auto, unfolding(fr_bytes::specs::Reading::counted_at))]
+fn counted_of<'a>(cur: &mut Cur<'a>) -> Result<&'a [u8], ReadRefusal>
+    ensures { Gives (λ x. x.now) result cur.new (counted_at cur.old) }
+{
+    let n = cur.u32()?;
+    let bytes = cur.take(n as usize)?;
+    Ok(bytes)
+}
+
+#[tactic(auto, unfolding(crate::specs::Reading::limited_at))]
+fn limited_of(alloc: Global, cur: &mut Cur<'_>, limit: u32) -> Result<Bytes, ReadRefusal>
+    ensures { Gives (λ x. x) result cur.new (limited_at limit cur.old) }
+{
+    let bytes = counted_of(cur)?;
+    if bytes.len() > limit as usize {
+        return Err(ReadRefusal::NotForm);
+    }
+    Ok(Bytes::of(Vec::from_slice(alloc, bytes)?))
+}
+
+#[tactic(auto, unfolding(crate::specs::Reading::signature_at))]
+fn signature_of(alloc: Global, cur: &mut Cur<'_>) -> Result<Bytes, ReadRefusal>
+    ensures { Gives (λ x. x) result cur.new (signature_at cur.old) }
+{
+    limited_of(alloc, cur, SIGNATURE_BYTES_MAX)
+}
+
+// ---- kinds
+
+#[tactic(auto, unfolding(crate::specs::Reading::wrap_at))]
+fn wrap_of(cur: &mut Cur<'_>) -> Result<Wrap, ReadRefusal>
+    ensures { Gives (λ x. x) result cur.new (wrap_at cur.old) }
+{
+    let child = u32_within(cur, CHILD_MIN, CHILD_MAX)?;
+    let child_gen = cur.u32()?;
+    let body = dig_at(cur)?;
+    Ok(Wrap {
+        child,
+        child_gen,
+        body,
+    })
+}
+
+/// As many wraps as `count` says.
+fn wraps_times(alloc: Global, cur: &mut Cur<'_>, count: u8) -> Result<Vec<Wrap>, ReadRefusal>
+    ensures { Gives (λ x. x.items) result cur.new (times_at wrap_at count cur.old) }
+{
+    let mut wraps = Vec::new(alloc);
+    for _ in 0..count {
+        let wrap = wrap_of(cur)?;
+        wraps.push(wrap)?;
+    }
+    Ok(wraps)
+}
+
+#[tactic(auto, unfolding(crate::specs::Reading::wraps_at))]
+fn wraps_of(alloc: Global, cur: &mut Cur<'_>) -> Result<Wraps, ReadRefusal>
+    ensures { Gives (λ x. x) result cur.new (wraps_at cur.old) }
+{
+    let count = u8_within(cur, 0, WRAPS_MAX)?;
+    let wraps = wraps_times(alloc, cur, count)?;
+    Ok(Sequence::of(wraps))
+}
+
+#[tactic(auto, unfolding(crate::specs::Reading::post_at))]
+fn post_of(alloc: Global, cur: &mut Cur<'_>) -> Result<Kind, ReadRefusal>
+    ensures { Gives (λ x. x) result cur.new (post_at cur.old) }
+{
+    let body = limited_of(alloc, cur, BODY_BYTES_MAX)?;
+    Ok(Kind::Post { body })
+}
+
+#[tactic(auto, unfolding(crate::specs::Reading::admit_at))]
+fn admit_of(alloc: Global, cur: &mut Cur<'_>) -> Result<Kind, ReadRefusal>
+    ensures { Gives (λ x. x) result cur.new (admit_at cur.old) }
+{
+    let user = cur.u32()?;
+    let role = u8_within(cur, READER, WRITER)?;
+    let slot = u8_within(cur, 0, SLOT_MAX)?;
+    let wraps = wraps_of(alloc, cur)?;
+    Ok(Kind::Admit {
+        user,
+        role,
+        slot,
+        wraps,
+    })
+}
+
+#[tactic(auto, unfolding(crate::specs::Reading::remove_at))]
+fn remove_of(alloc: Global, cur: &mut Cur<'_>) -> Result<Kind, ReadRefusal>
+    ensures { Gives (λ x. x) result cur.new (remove_at cur.old) }
+{
+    let user = cur.u32()?;
+    let slot = u8_within(cur, 0, SLOT_MAX)?;
+    let wraps = wraps_of(alloc, cur)?;
+    Ok(Kind::Remove { user, slot, wraps })
+}
+
+/// What follows a kind's tag.
+#[tactic(auto, unfolding(crate::specs::Reading::kind_of))]
+fn kind_behind(alloc: Global, cur: &mut Cur<'_>, tag: u8) -> Result<Kind, ReadRefusal>
+    ensures { Gives (λ x. x) result cur.new (kind_of tag cur.old) }
+{
+    match tag {
+        0 => post_of(alloc, cur),
+        1 => admit_of(alloc, cur),
+        2 => remove_of(alloc, cur),
+        _ => Err(ReadRefusal::NotForm),
+    }
+}
+
+#[tactic(auto, unfolding(crate::specs::Reading::kind_at))]
+fn kind_at_front(alloc: Global, cur: &mut Cur<'_>) -> Result<Kind, ReadRefusal>
+    ensures { Gives (λ x. x) result cur.new (kind_at cur.old) }
+{
+    let tag = cur.u8()?;
+    let kind = kind_behind(alloc, cur, tag)?;
+    Ok(kind)
+}
+
+// ---- views, operations and leaves
+
+/// The root of a view of nothing.
+#[tactic(auto, unfolding(crate::specs::Spelling::no_root))]
+pub(crate) fn zero_root() -> Dig
+    ensures { result ≡ no_root }
+{
+    [0; 32]
+}
+
+/// The root and the signature of a view of this size.
+#[tactic(auto, unfolding(crate::specs::Reading::signed_at))]
+fn signed_of(alloc: Global, cur: &mut Cur<'_>, size: u64) -> Result<(Dig, Bytes), ReadRefusal>
+    ensures { Gives (λ x. (x.0, x.1)) result cur.new (signed_at size cur.old) }
+{
+    if size == 0 {
+        return Ok((zero_root(), Bytes::of(Vec::new(alloc))));
+    }
+    let root = dig_at(cur)?;
+    let sig = signature_of(alloc, cur)?;
+    Ok((root, sig))
+}
+
+#[tactic(auto, unfolding(crate::specs::Reading::view_at))]
+fn view_of(alloc: Global, cur: &mut Cur<'_>, wall: u32) -> Result<View, ReadRefusal>
+    ensures { Gives (λ x. x) result cur.new (view_at wall cur.old) }
+{
+    let size = u64_within(cur, 0, VIEW_SIZE_MAX)?;
+    let (root, sig) = signed_of(alloc, cur, size)?;
+    Ok(View {
+        wall,
+        size,
+        root,
+        sig,
+    })
+}
+
+#[tactic(auto, unfolding(crate::specs::Reading::op_at))]
+fn op_of(alloc: Global, cur: &mut Cur<'_>) -> Result<Op, ReadRefusal>
+    ensures { Gives (λ x. x) result cur.new (op_at cur.old) }
+{
+    let wall = cur.u32()?;
+    let author = cur.u32()?;
+    let seq = u32_within(cur, 0, SEQ_MAX)?;
+    let epoch = cur.u64()?;
+    let view = view_of(alloc, cur, wall)?;
+    let kind = kind_at_front(alloc, cur)?;
+    let sig = signature_of(alloc, cur)?;
+    Ok(Op {
+        wall,
+        author,
+        seq,
+        epoch,
+        view,
+        kind,
+        sig,
+    })
+}
+
+#[tactic(auto, unfolding(crate::specs::Reading::leaf_at))]
+fn leaf_of(alloc: Global, cur: &mut Cur<'_>) -> Result<Leaf, ReadRefusal>
+    ensures { Gives (λ x. x) result cur.new (leaf_at cur.old) }
+{
+    let after = dig_at(cur)?;
+    let epoch = cur.u64()?;
+    let op = op_of(alloc, cur)?;
+    Ok(Leaf { after, epoch, op })
+}
+
+fn whole_op(alloc: Global, bytes: &[u8]) -> Result<Op, ReadRefusal>
+    ensures { GivesAll (λ x. x) result (all_of op_at bytes.now) }
+{
+    let mut cur = Cur::new(bytes);
+    let op = op_of(alloc, &mut cur)?;
+    if cur.left() != 0 {
+        return Err(ReadRefusal::NotForm);
+    }
+    Ok(op)
+}
+
+fn whole_leaf(alloc: Global, bytes: &[u8]) -> Result<Leaf, ReadRefusal>
+    ensures { GivesAll (λ x. x) result (all_of leaf_at bytes.now) }
+{
+    let mut cur = Cur::new(bytes);
+    let leaf = leaf_of(alloc, &mut cur)?;
+    if cur.left() > 0 {
+        return Err(ReadRefusal::NotForm);
+    }
+    Ok(leaf)
+}
+
+/// The operation that `bytes` spell, all of them. `NotForm` comes exactly where they spell none.
+pub fn read_op(alloc: Global, bytes: &[u8]) -> Result<Op, ReadRefusal>
+    ensures found { IfOk result (λ op. SpellsOp op bytes.now) }
+    ensures not_form { IsErrOf result ReadRefusal.NotForm → (op : Op) → SpellsOp op bytes.now → ⊥ }
+    ensures exact { GivesAll (λ x. x) result (all_of op_at bytes.now) }
+{
+    whole_op(alloc, bytes)
+}
+
+/// The leaf that `bytes` spell, all of them. `NotForm` comes exactly where they spell none.
+pub fn read_leaf(alloc: Global, bytes: &[u8]) -> Result<Leaf, ReadRefusal>
+    ensures found { IfOk result (λ leaf. SpellsLeaf leaf bytes.now) }
+    ensures not_form { IsErrOf result ReadRefusal.NotForm → (leaf : Leaf) → SpellsLeaf leaf bytes.now → ⊥ }
+    ensures exact { GivesAll (λ x. x) result (all_of leaf_at bytes.now) }
+{
+    whole_leaf(alloc, bytes)
+}
