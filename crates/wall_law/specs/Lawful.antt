@@ -1,0 +1,35 @@
+-- Lawful histories.
+use Rattle.std.specs.Prelude.{◌≡◌, ℕ, ◌+◌, ◌<◌, List, take, Option, Some, None, slice_get}
+use Rattle.op_types.specs.declared.op.Leaf.{Leaf}
+use Rattle.tree_model.specs.declared.entry.Entry.{Entry}
+use Rattle.tree_model.specs.AccessList.{dict}
+use Rattle.wall_law.specs.declared.state.State.{State}
+use Rattle.wall_law.specs.State.{state_of, epoch_after}
+use Rattle.wall_law.specs.Law.{law_of, law}
+
+-- what a leaf tells of the state after it: the digest of the access list and the epoch
+pub record Told : Type 0 where
+  pub list : List ℕ
+  pub epoch : ℕ
+
+abbrev pub told : Leaf → Told
+told leaf = record { list = leaf.after; epoch = leaf.epoch }
+
+abbrev pub told_of : (List ℕ → List ℕ) → State → Told
+told_of d s = record { list = dict d s.entries; epoch = s.epoch }
+
+-- One position passes, over what was told before it, the entries that were found, the digest of the list
+-- that its operation leaves, and the roots of the versions before it.
+pub record PositionPasses (before : Told) (author changed : Option Entry) (list_after : List ℕ) (root_at : ℕ → Option (List ℕ)) (wall k : ℕ) (leaf : Leaf) : Type 0 where
+  pub lawful : law_of author changed before.epoch wall k leaf.op ≡ None
+  pub seen : 0 < leaf.op.view.size → root_at leaf.op.view.size ≡ Some leaf.op.view.root
+  pub tells : told leaf ≡ (record { list = list_after; epoch = epoch_after before.epoch leaf.op })
+
+-- A position of a history is lawful: the law has no refusal in the state of the operations before it,
+-- and its leaf tells the state after it.
+pub record IsLawfulAt (d : List ℕ → List ℕ) (owner wall : ℕ) (leaves : List Leaf) (k : ℕ) (leaf : Leaf) : Type 0 where
+  pub lawful : law (state_of owner (take k leaves)) wall k leaf.op ≡ None
+  pub tells : told leaf ≡ told_of d (state_of owner (take (k + 1) leaves))
+
+abbrev pub Lawful : (List ℕ → List ℕ) → ℕ → ℕ → List Leaf → Type 0
+Lawful d owner wall leaves = (k : ℕ) (leaf : Leaf) → slice_get leaves k ≡ Some leaf → IsLawfulAt d owner wall leaves k leaf

@@ -1,0 +1,23 @@
+/// Why an operation may not stand at a position. The first that applies is told, in this order.
+#[derive(Clone, Copy, Debug, PartialEq, Eq)]
+pub enum LawRefusal {
+    /// The operation is of another wall.
+    WrongWall,
+    /// Its author isn't in the access list as a writer or as the owner.
+    NotAllowed,
+    /// It was made at another epoch than the state's.
+    StaleEpoch {
+        /// The state's epoch.
+        now: u64,
+    },
+    /// Its number is smaller than the author's next one.
+    Replayed {
+        /// The author's next number.
+        next: u32,
+    },
+    /// It changes the access list, and its author isn't the owner, or it admits a user who is in the
+    /// list, or it removes a user who isn't or who is the owner.
+    BadChange,
+    /// Its view covers more operations than stand before the position.
+    LateView,
+}
