@@ -1,0 +1,3 @@
+pub mod Digits
+pub mod Chain
+pub mod OneTime
