@@ -1,0 +1,10 @@
+pub mod Totals
+pub mod Fronts
+pub mod Keeping
+pub mod Turning
+pub mod Seating
+pub mod Opening
+pub mod Dealing
+pub mod Closing
+pub mod Gathering
+pub mod Growing

@@ -1,0 +1,6 @@
+pub mod Calls
+pub mod Fronts
+pub mod Knowing
+pub mod Rule
+pub mod Plays
+pub mod Seats

@@ -1,0 +1,22 @@
+//! A ticket lock round a value whose calls are written down. Under any number of threads there is
+//! one history of calls: each caller sees a front of it, in which its own calls stand once each, in
+//! its order, with the answers that it was given.
+#![tactic(auto)]
+
+mod close;
+mod gate;
+mod laws;
+mod make;
+mod meet;
+mod plays;
+mod rule;
+mod seat;
+#[cfg(test)]
+mod tests;
+mod turn;
+mod turned;
+
+pub use gate::Gate;
+pub use laws::{turns_grow, whole};
+pub use seat::GateSeat;
+pub use turned::Turned;
