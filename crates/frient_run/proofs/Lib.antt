@@ -1,0 +1,10 @@
+pub mod ReadingLoop
+pub mod MessageLemmas
+pub mod Judgements
+pub mod LaneRuns
+pub mod Edges
+pub mod Laws
+pub mod ThinScriptLemmas
+pub mod ReportLemmas
+pub mod AuditLemmas
+pub mod Promises

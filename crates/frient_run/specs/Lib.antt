@@ -1,0 +1,11 @@
+pub mod ThinScript
+pub mod ThinReading
+pub mod Report
+pub mod ThinMessages
+pub mod Client
+pub mod Server
+pub mod Lane
+pub mod Hearing
+pub mod Records
+pub mod Ends
+pub mod Input
