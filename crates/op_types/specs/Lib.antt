@@ -3,3 +3,4 @@ pub mod Roles
 pub mod Kinds
 pub mod Spelling
 pub mod Reading
+pub mod Written

@@ -13,6 +13,7 @@ mod roles;
 mod tests;
 mod view;
 mod writing;
+mod written;
 
 pub use kind::{Kind, Wrap, Wraps};
 pub use messages::{VIEW_MESSAGE_BYTES, op_message, view_message};
@@ -21,3 +22,4 @@ pub use reading::{read_leaf, read_op};
 pub use roles::{OWNER, READER, WRITER, may_write};
 pub use view::View;
 pub use writing::{write_leaf, write_op};
+pub use written::WrittenLeaves;

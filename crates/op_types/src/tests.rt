@@ -86,17 +86,45 @@ fn operations_are_read_and_written(rt: HostRuntime) -> Result<(), Fail> {
     Ok(())
 }
 
+/// The text of a leaf that holds the operation.
+fn leaf_text_of(alloc: Global, case: &Case) -> Result<Vec<u8>, AllocError> {
+    let mut text = join(alloc, &[Run(0xee, 32), Plain(b"\0\0\x01\0\0\0\0\x01")])?;
+    text.extend_from_slice(&join(alloc, case.text)?)?;
+    Ok(text)
+}
+
 #[test]
 fn leaves_are_read_and_written(rt: HostRuntime) -> Result<(), Fail> {
     for case in &OPS {
-        let mut text = join(rt.alloc(), &[Run(0xee, 32), Plain(b"\0\0\x01\0\0\0\0\x01")])?;
-        text.extend_from_slice(&join(rt.alloc(), case.text)?)?;
+        let text = leaf_text_of(rt.alloc(), case)?;
         let leaf = read_leaf(rt.alloc(), &text)?;
         assert_eq!(rt; leaf.after, [0xee; 32]);
         assert_eq!(rt; leaf.epoch, 1_099_511_627_777);
         assert!(rt; leaf.op == op_of(rt.alloc(), case)?);
         assert_eq!(rt; write_leaf(rt.alloc(), &leaf)?.as_slice(), text.as_slice());
     }
+    Ok(())
+}
+
+#[test]
+fn leaves_are_kept_with_their_texts(rt: HostRuntime) -> Result<(), Fail> {
+    let mut wanted = Vec::new(rt.alloc());
+    let mut written = WrittenLeaves::empty(rt.alloc());
+    let mut read = WrittenLeaves::empty(rt.alloc());
+    assert_eq!(rt; written.len(), 0);
+    for case in &OPS {
+        let text = Bytes::of(leaf_text_of(rt.alloc(), case)?);
+        written.push(read_leaf(rt.alloc(), text.as_slice())?)?;
+        let leaf = read_leaf(rt.alloc(), text.as_slice())?;
+        read.push_read(text.copy()?, leaf)?;
+        wanted.push(text)?;
+    }
+    assert_eq!(rt; written.len(), 10);
+    assert_eq!(rt; read.len(), 10);
+    assert!(rt; written.texts() == wanted.as_slice());
+    assert!(rt; read.texts() == wanted.as_slice());
+    assert!(rt; written.leaves() == read.leaves());
+    assert_eq!(rt; written.into_leaves().len(), 10);
     Ok(())
 }
 

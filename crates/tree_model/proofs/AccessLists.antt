@@ -1,8 +1,8 @@
 -- The laws of access lists: sets as lists whose users rise, the entry of greatest priority, and digests.
-use Rattle.std.proofs.Common.{◌≡◌, ◌⊎◌, ℕ, zero, suc, ◌+◌, ◌-◌, ◌<◌, ◌≤◌, Bool, true, false, cond, ltb, List, [], ◌∷◌, ◌++◌, length, take, drop, Option, Some, None, get_or, refl, ap, sym, subst, ◌∙◌, inl, inr, add-one, arith}
+use Rattle.std.proofs.Common.{◌≡◌, ◌⊎◌, ℕ, zero, suc, ◌+◌, ◌<◌, ◌≤◌, Bool, true, false, cond, ltb, List, [], ◌∷◌, length, take, drop, Option, Some, None, get_or, refl, ap, sym, subst, ◌∙◌, inl, inr, add-one, arith}
 use Rattle.std.specs.Prelude.{filter, slice_get}
 use Rattle.std.specs.List.{AllByRecursion}
-use Rattle.std.proofs.lemmas.Bool.{lt-ltb, le-ltb, cases_lt}
+use Rattle.std.proofs.lemmas.Bool.{lt-ltb, le-ltb}
 use Rattle.tree_model.specs.declared.entry.Entry.{Entry}
 use Rattle.tree_model.specs.AccessList.{IsRising, smaller, greater, is_above, greatest, top_of, node_text, set_digest_in, set_digest, dict}
 use Rattle.fr_digest.specs.Digest.{IsDigest}
@@ -32,11 +32,11 @@ rising-drop (suc k) (e ∷ es) h = rising-drop k es h.1
 
 -- ---- smaller and greater users
 
-smaller-none : (user : ℕ) (es : List Entry) → AllByRecursion (λ (x : Entry). user < x.user) es → smaller user es ≡ []
+pub smaller-none : (user : ℕ) (es : List Entry) → AllByRecursion (λ (x : Entry). user < x.user) es → smaller user es ≡ []
 smaller-none user [] all = refl
 smaller-none user (e ∷ es) all = let above : user ≤ e.user = omega (arith, all.0) in rw (le-ltb e.user user above) (smaller-none user es all.1)
 
-greater-all : (user : ℕ) (es : List Entry) → AllByRecursion (λ (x : Entry). user < x.user) es → greater user es ≡ es
+pub greater-all : (user : ℕ) (es : List Entry) → AllByRecursion (λ (x : Entry). user < x.user) es → greater user es ≡ es
 greater-all user [] all = refl
 greater-all user (e ∷ es) all = rw (lt-ltb user e.user all.0) (ap (λ (xs : List Entry). e ∷ xs) (greater-all user es all.1))
 
@@ -62,11 +62,11 @@ greater-drop (e ∷ es) (suc k) t h at =
 
 -- ---- the entry of greatest priority
 
-abbrev Among : Entry → List Entry → Type 0
+abbrev pub Among : Entry → List Entry → Type 0
 Among x [] = ⊥
 Among x (e ∷ es) = (x ≡ e) ⊎ Among x es
 
-greatest-among : (best : Entry) (es : List Entry) → Among (greatest best es) (best ∷ es)
+pub greatest-among : (best : Entry) (es : List Entry) → Among (greatest best es) (best ∷ es)
 unfolding greatest
 greatest-among best [] = inl refl
 greatest-among best (e ∷ es) =
@@ -91,14 +91,14 @@ filter-less p x (e ∷ es) (inr later) fails =
     let others = filter-less p x es later fails in
     elim (p e) as (λ b. length (cond b (e ∷ filter p es) (filter p es)) < suc (length es)) [ true ↦ omega arith | false ↦ omega arith ]
 
-smaller-fewer : (e : Entry) (es : List Entry) → length (smaller (greatest e es).user (e ∷ es)) ≤ length es
+pub smaller-fewer : (e : Entry) (es : List Entry) → length (smaller (greatest e es).user (e ∷ es)) ≤ length es
 smaller-fewer e es =
     let top = greatest e es in
     let self : ltb top.user top.user ≡ false = le-ltb top.user top.user (omega arith) in
     let fewer : length (smaller top.user (e ∷ es)) < suc (length es) = filter-less (λ (x : Entry). ltb x.user top.user) top (e ∷ es) (greatest-among e es) self in
     omega arith
 
-greater-fewer : (e : Entry) (es : List Entry) → length (greater (greatest e es).user (e ∷ es)) ≤ length es
+pub greater-fewer : (e : Entry) (es : List Entry) → length (greater (greatest e es).user (e ∷ es)) ≤ length es
 greater-fewer e es =
     let top = greatest e es in
     let self : ltb top.user top.user ≡ false = le-ltb top.user top.user (omega arith) in

@@ -1,10 +1,10 @@
 -- Changes of access lists keep the order of the users.
-use Rattle.std.proofs.Common.{◌≡◌, ◌⊎◌, ℕ, zero, suc, ◌<◌, ◌≤◌, Bool, true, false, cond, ltb, List, [], ◌∷◌, ◌++◌, length, Option, Some, None, refl, ap, sym, subst, ◌∙◌, inl, inr, arith}
-use Rattle.std.specs.Prelude.{filter, map, find, nat_eq, not}
+use Rattle.std.proofs.Common.{◌≡◌, ℕ, ◌<◌, Bool, true, false, cond, ltb, List, [], ◌∷◌, ◌++◌, refl, inl, inr, arith}
+use Rattle.std.specs.Prelude.{filter, nat_eq, not}
 use Rattle.std.specs.List.{AllByRecursion}
-use Rattle.std.proofs.lemmas.Bool.{lt-ltb, le-ltb, cases_lt, ltb-true}
+use Rattle.std.proofs.lemmas.Bool.{lt-ltb, le-ltb, cases_lt}
 use Rattle.tree_model.specs.declared.entry.Entry.{Entry}
-use Rattle.tree_model.specs.AccessList.{IsRising, smaller, greater, ListChange, stays, adds, drops, with_next, with_entry, without, change_by, changed_set}
+use Rattle.tree_model.specs.AccessList.{IsRising, smaller, greater, ListChange, stays, adds, drops, with_next, with_entry, change_by, changed_set}
 
 -- ---- what holds of each entry
 

@@ -1,7 +1,7 @@
 -- Access lists: sets of entries, one for each user, kept as lists whose users rise; the digest of a set
 -- by its entry of greatest priority, which is the digest of the one treap of the set (Aragon and Seidel,
 -- "Randomized Search Trees"); and what a change leaves of a set. d is the digest of strings.
-use Rattle.std.specs.Prelude.{◌≡◌, ℕ, zero, suc, ◌+◌, ◌<◌, ◌≤◌, Bool, true, false, not, List, [], ◌∷◌, ◌++◌, length, map, filter, find, Option, Some, None, nat_lt, nat_eq, if◌then◌else◌, unwrap_or}
+use Rattle.std.specs.Prelude.{◌≡◌, ◌≢◌, ℕ, zero, suc, ◌<◌, Bool, not, List, [], ◌∷◌, ◌++◌, length, map, filter, find, Option, Some, None, nat_lt, nat_eq, if◌then◌else◌, unwrap_or}
 use Rattle.std.specs.List.{AllByRecursion}
 use Rattle.std.specs.Int.{w32, to_be_bytes}
 use Rattle.std.specs.Ordering.{ordering_then, nat_cmp, is_gt}
@@ -92,6 +92,17 @@ pub data ListChange : Type 0 where
   stays : ListChange
   adds : Entry → ListChange
   drops : ℕ → ListChange
+
+-- the user has an entry
+abbrev pub IsListed : List Entry → ℕ → Type 0
+IsListed es user = (e : Entry) × (entry_of es user ≡ Some e)
+
+-- What an author may make of a set: the author is in it, a user who is added isn't, and a user who is
+-- dropped is in it and isn't the author.
+abbrev pub FitsChange : List Entry → ℕ → ListChange → Type 0
+FitsChange es author stays = IsListed es author
+FitsChange es author (adds e) = IsListed es author × (entry_of es e.user ≡ None)
+FitsChange es author (drops user) = IsListed es author × IsListed es user × (user ≢ author)
 
 -- the set in which this user's entry has this next number
 abbrev pub with_next : ℕ → ℕ → List Entry → List Entry

@@ -1,2 +1,3 @@
 pub mod AccessList
 pub mod History
+pub mod Treap

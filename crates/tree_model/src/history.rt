@@ -1,18 +1,27 @@
 ghost use Rattle.std.specs.Prelude.{◌≡◌, ◌<◌, ◌≤◌, ◌-◌, ◌^◌, length};
-ghost use Rattle.tree_model.specs.History.{depth, part, root};
+ghost use Rattle.tree_model.specs.History.{depth, part, root, root_of_all};
 
 use fr_bytes::{Bytes, Texts};
 use fr_digest::{Dig, Digester};
 
 /// The root of version `v` of the history tree of `texts`: the digest of the tree of the first `v`
 /// texts (Crosby and Wallach, USENIX Security 2009). Each text is hashed once, and no memory is taken.
+#[tactic(auto, unfolding(crate::specs::History::root))]
 pub fn root_at<D: Digester>(texts: &Texts, v: u64) -> Dig
     requires some { 0 < v }
     requires within { v ≤ length texts.now }
     ensures { result ≡ root D.digest_of texts.now v }
 {
-    let version = &texts.as_slice()[..v as usize];
-    part_of::<D>(version, depth_of(v))
+    root_of::<D>(&texts.as_slice()[..v as usize])
+}
+
+/// The root of the history tree of all of `texts`. Each text is hashed once, and no memory is taken.
+#[tactic(auto, unfolding(crate::specs::History::root_of_all))]
+pub fn root_of<D: Digester>(texts: &[Bytes]) -> Dig
+    requires some { 0 < length texts.now }
+    ensures { result ≡ root_of_all D.digest_of texts.now }
+{
+    part_of::<D>(texts, depth_of(texts.len() as u64))
 }
 
 /// The height of the history tree of `n` leaves, the least `e` with `n <= 2^e`: at most 64.

@@ -15,6 +15,6 @@ mod tests;
 
 pub use entry::{Entries, Entry, HasText};
 pub use entry_set::{dict_digest, top_in};
-pub use history::{depth_of, left_leaves, root_at};
+pub use history::{depth_of, left_leaves, root_at, root_of};
 pub use priority::above;
 pub use set_changes::{add_entry, drop_user, find_entry, greater_users, set_next, smaller_users};

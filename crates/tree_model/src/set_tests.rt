@@ -202,4 +202,9 @@ fn laws_of_access_lists_are_called() {
     laws::access_list::digests::<Sha>();
     laws::access_list::digests::<Short>();
     laws::access_list::changes();
+    laws::access_list::sets::<Sha>();
+    laws::access_list::sets::<Short>();
+    laws::access_list::treaps::<Sha>();
+    laws::access_list::treaps::<Short>();
+    laws::access_list::look_ups();
 }

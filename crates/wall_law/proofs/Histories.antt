@@ -1,19 +1,18 @@
 -- The laws of lawful histories.
-use Rattle.std.proofs.Common.{◌≡◌, ℕ, zero, suc, ◌+◌, ◌<◌, ◌≤◌, Bool, true, false, cond, not, ltb, List, [], ◌∷◌, ◌++◌, length, take, Option, Some, None, refl, ap, sym, subst, ◌∙◌, add-one, arith}
+use Rattle.std.proofs.Common.{◌≡◌, ℕ, zero, suc, ◌+◌, ◌<◌, ◌≤◌, Bool, true, false, cond, not, ltb, List, [], ◌∷◌, ◌++◌, length, take, Option, Some, None, refl, ap, sym, ◌∙◌, arith}
 use Rattle.std.specs.Prelude.{fold, slice_get, nat_eq, option_and_then}
-use Rattle.std.proofs.lemmas.Bool.{ltb-false}
+use Rattle.std.proofs.lemmas.Bool.{ltb-false, eqb-true}
 use Rattle.std.proofs.lemmas.List.{take-take}
 use Rattle.op_types.specs.declared.op.Op.{Op}
 use Rattle.op_types.specs.declared.op.Leaf.{Leaf}
 use Rattle.op_types.specs.Kinds.{is_change_lem, changed_user_lem}
 use Rattle.tree_model.specs.declared.entry.Entry.{Entry}
-use Rattle.tree_model.specs.AccessList.{IsRising, entry_of, dict, changed_set}
+use Rattle.tree_model.specs.AccessList.{IsRising, entry_of, dict}
 use Rattle.tree_model.proofs.ListChanges.{rising-changed_set}
-use Rattle.wall_law.specs.declared.refusal.LawRefusal.{LawRefusal}
 use Rattle.wall_law.specs.declared.state.State.{State}
 use Rattle.wall_law.specs.State.{opening, change_of, epoch_after, after, state_of}
 use Rattle.wall_law.specs.Law.{may_add, next_of, is_bad_change, law_of, law}
-use Rattle.wall_law.specs.Lawful.{Told, told, told_of, PositionPasses, IsLawfulAt, Lawful}
+use Rattle.wall_law.specs.Lawful.{Told, told, told_of, PositionPasses, Lawful}
 
 -- ---- states of histories
 
@@ -68,26 +67,48 @@ none_else : {A : Type 0} (b : Bool) (x : A) (rest : Option A) → cond b (Some x
 none_else true x rest e = absurd cc
 none_else false x rest e = (refl, e)
 
--- an operation that the law lets stand embeds a view of at most the operations before it
-pub law_of-view : (author changed : Option Entry) (epoch wall k : ℕ) (op : Op) → law_of author changed epoch wall k op ≡ None → op.view.size ≤ k
+not-false : (b : Bool) → not b ≡ false → b ≡ true
+not-false true e = refl
+not-false false e = sym e
+
+-- what an operation is that the law lets stand
+pub record Stands (author changed : Option Entry) (epoch wall k : ℕ) (op : Op) : Type 0 where
+  pub same_wall : op.wall ≡ wall
+  pub allowed : may_add author ≡ true
+  pub same_epoch : op.epoch ≡ epoch
+  pub fresh : next_of author ≤ op.seq
+  pub good_change : is_bad_change author changed op.kind ≡ false
+  pub early_view : op.view.size ≤ k
+
+pub law_of-stands : (author changed : Option Entry) (epoch wall k : ℕ) (op : Op) → law_of author changed epoch wall k op ≡ None → Stands author changed epoch wall k op
 unfolding law_of
-law_of-view author changed epoch wall k op none =
+law_of-stands author changed epoch wall k op none =
     let e1 = none_else (not (nat_eq op.wall wall)) _ _ none in
     let e2 = none_else (not (may_add author)) _ _ e1.1 in
     let e3 = none_else (not (nat_eq op.epoch epoch)) _ _ e2.1 in
     let e4 = none_else (ltb op.seq (next_of author)) _ _ e3.1 in
     let e5 = none_else (is_bad_change author changed op.kind) _ _ e4.1 in
     let e6 = none_else (ltb k op.view.size) _ _ e5.1 in
-    ltb-false k op.view.size e6.0
+    record {
+      same_wall = eqb-true op.wall wall (not-false _ e1.0);
+      allowed = not-false _ e2.0;
+      same_epoch = eqb-true op.epoch epoch (not-false _ e3.0);
+      fresh = ltb-false op.seq (next_of author) e4.0;
+      good_change = e5.0;
+      early_view = ltb-false k op.view.size e6.0;
+    }
+
+pub law-stands : (s : State) (wall k : ℕ) (op : Op) → law s wall k op ≡ None → Stands (entry_of s.entries op.author) (option_and_then (λ (user : ℕ). entry_of s.entries user) (changed_user_lem op.kind)) s.epoch wall k op
+unfolding law
+law-stands s wall k op none = law_of-stands _ _ s.epoch wall k op none
 
 -- in a lawful history each embedded view covers earlier positions alone
 pub lawful-view : (d : List ℕ → List ℕ) (owner wall : ℕ) (leaves : List Leaf) (k : ℕ) (leaf : Leaf) → Lawful d owner wall leaves → slice_get leaves k ≡ Some leaf → leaf.op.view.size ≤ k
-unfolding law
-lawful-view d owner wall leaves k leaf lawful at = law_of-view _ _ _ wall k leaf.op (lawful k leaf at).lawful
+lawful-view d owner wall leaves k leaf lawful at = (law-stands _ wall k leaf.op (lawful k leaf at).lawful).early_view
 
 -- ---- prefixes
 
-slice_get-take : (n k : ℕ) (leaves : List Leaf) (leaf : Leaf) → slice_get (take n leaves) k ≡ Some leaf → (k < n) × (slice_get leaves k ≡ Some leaf)
+pub slice_get-take : (n k : ℕ) (leaves : List Leaf) (leaf : Leaf) → slice_get (take n leaves) k ≡ Some leaf → (k < n) × (slice_get leaves k ≡ Some leaf)
 slice_get-take zero k leaves leaf at = absurd cc
 slice_get-take (suc n) k [] leaf at = absurd cc
 slice_get-take (suc n) zero (l ∷ leaves) leaf at = (omega arith, at)

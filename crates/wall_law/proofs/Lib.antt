@@ -1,1 +1,3 @@
+pub mod Extensions
 pub mod Histories
+pub mod Owners

@@ -1,5 +1,5 @@
 -- The law of a position: the first refusal, or none.
-use Rattle.std.specs.Prelude.{ℕ, Bool, true, false, not, ◌&&◌, ◌||◌, Option, Some, None, Result, Ok, Err, nat_lt, nat_eq, is_none, if◌then◌else◌, option_and_then}
+use Rattle.std.specs.Prelude.{ℕ, Bool, true, false, not, ◌&&◌, ◌||◌, Option, Some, None, Result, Ok, Err, nat_lt, nat_eq, if◌then◌else◌, option_and_then}
 use Rattle.op_types.specs.declared.kind.Kind.{Kind}
 use Rattle.op_types.specs.declared.kind.Kind.TheVariants.{Post, Admit, Remove}
 use Rattle.op_types.specs.declared.op.Op.{Op}

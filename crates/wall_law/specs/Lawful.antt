@@ -4,7 +4,7 @@ use Rattle.op_types.specs.declared.op.Leaf.{Leaf}
 use Rattle.tree_model.specs.declared.entry.Entry.{Entry}
 use Rattle.tree_model.specs.AccessList.{dict}
 use Rattle.wall_law.specs.declared.state.State.{State}
-use Rattle.wall_law.specs.State.{state_of, epoch_after}
+use Rattle.wall_law.specs.State.{after, state_of, epoch_after}
 use Rattle.wall_law.specs.Law.{law_of, law}
 
 -- what a leaf tells of the state after it: the digest of the access list and the epoch
@@ -33,3 +33,8 @@ pub record IsLawfulAt (d : List ℕ → List ℕ) (owner wall : ℕ) (leaves : L
 
 abbrev pub Lawful : (List ℕ → List ℕ) → ℕ → ℕ → List Leaf → Type 0
 Lawful d owner wall leaves = (k : ℕ) (leaf : Leaf) → slice_get leaves k ≡ Some leaf → IsLawfulAt d owner wall leaves k leaf
+
+-- A leaf comes next in a state, at position k: the law has no refusal there, and the leaf tells the state
+-- after it.
+abbrev pub ComesNext : (List ℕ → List ℕ) → State → ℕ → ℕ → Leaf → Type 0
+ComesNext d s wall k leaf = (law s wall k leaf.op ≡ None) × (told leaf ≡ told_of d (after s leaf.op))

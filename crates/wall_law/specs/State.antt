@@ -1,5 +1,5 @@
 -- The state of a wall before a position: its access list and how many changes of it there were.
-use Rattle.std.specs.Prelude.{ℕ, ◌+◌, Bool, true, false, List, [], ◌∷◌, fold, map, cond}
+use Rattle.std.specs.Prelude.{◌≡◌, ℕ, ◌+◌, List, [], ◌∷◌, fold, cond, Some}
 use Rattle.op_types.specs.declared.kind.Kind.{Kind}
 use Rattle.op_types.specs.declared.kind.Kind.TheVariants.{Post, Admit, Remove}
 use Rattle.op_types.specs.declared.op.Op.{Op}
@@ -7,7 +7,7 @@ use Rattle.op_types.specs.declared.op.Leaf.{Leaf}
 use Rattle.op_types.specs.declared.roles.TheConstants.{OWNER}
 use Rattle.op_types.specs.Kinds.{is_change_lem}
 use Rattle.tree_model.specs.declared.entry.Entry.{Entry}
-use Rattle.tree_model.specs.AccessList.{ListChange, stays, adds, drops, changed_set}
+use Rattle.tree_model.specs.AccessList.{ListChange, stays, adds, drops, changed_set, entry_of}
 use Rattle.wall_law.specs.declared.state.State.{State}
 
 -- A wall begins with its owner alone.
@@ -32,3 +32,7 @@ after s op = record { entries = changed_set s.entries op.author (op.seq + 1) (ch
 -- The state after a list of leaves.
 abbrev pub state_of : ℕ → List Leaf → State
 state_of owner leaves = fold (λ (s : State) (leaf : Leaf). after s leaf.op) (opening owner) leaves
+
+-- The owner is in the list, in the owner's role.
+abbrev pub HasOwner : ℕ → List Entry → Type 0
+HasOwner owner es = (next : ℕ) × (entry_of es owner ≡ Some (record { user = owner; role = OWNER; next = next }))

@@ -2,12 +2,12 @@
 ghost use Rattle.op_types.specs.declared.op.Leaf.{Leaf};
 ghost use Rattle.op_types.specs.declared.op.Op.{Op};
 ghost use Rattle.op_types.specs.Kinds.{changed_user_lem};
-ghost use Rattle.std.specs.Prelude.{◌≡◌, ◌≤◌, ◌++◌, ◌∷◌, [], ℕ, List, None, Option, Some, length, option_and_then, slice_get, take};
-ghost use Rattle.tree_model.specs.AccessList.{IsRising, dict, entry_of};
+ghost use Rattle.std.specs.Prelude.{◌≡◌, ◌+◌, ◌<◌, ◌≤◌, ◌↔◌, ◌++◌, ◌∷◌, [], ℕ, List, None, Option, Some, length, option_and_then, slice_get, take};
+ghost use Rattle.tree_model.specs.AccessList.{FitsChange, IsRising, dict, entry_of};
 ghost use Rattle.wall_law.specs.declared.state.State.{State};
 ghost use Rattle.wall_law.specs.Law.{law};
-ghost use Rattle.wall_law.specs.Lawful.{Lawful, PositionPasses, told, told_of};
-ghost use Rattle.wall_law.specs.State.{after, state_of};
+ghost use Rattle.wall_law.specs.Lawful.{ComesNext, IsLawfulAt, Lawful, PositionPasses, told, told_of};
+ghost use Rattle.wall_law.specs.State.{HasOwner, after, change_of, state_of};
 
 /// What holds of the state after any leaves: it is made leaf by leaf, its users rise, and its epoch is
 /// at most the number of the leaves.
@@ -28,4 +28,30 @@ pub fn histories()
 /// operation leaves, is that the position is lawful.
 pub fn positions()
     ensures { (d : List ℕ → List ℕ) (s : State) (root_at : ℕ → Option (List ℕ)) (list_after : List ℕ) (wall k : ℕ) (leaf : Leaf) → list_after ≡ dict d (after s leaf.op).entries → PositionPasses (told_of d s) (entry_of s.entries leaf.op.author) (option_and_then (λ (user : ℕ). entry_of s.entries user) (changed_user_lem leaf.op.kind)) list_after root_at wall k leaf → (law s wall k leaf.op ≡ None) × (told leaf ≡ told_of d (after s leaf.op)) }
+{}
+
+/// Where the law has no refusal, the author is in the access list, an admitted user isn't, and a removed
+/// user is in it and isn't the author.
+pub fn changes()
+    ensures { (s : State) (wall k : ℕ) (op : Op) → law s wall k op ≡ None → FitsChange s.entries op.author (change_of op.kind) }
+{}
+
+/// The owner stays in the access list, in the owner's role: over each operation that the law lets stand,
+/// and so over every lawful history, whose list is never empty.
+pub fn owners()
+    ensures stays { (s : State) (owner wall k : ℕ) (op : Op) → law s wall k op ≡ None → HasOwner owner s.entries → HasOwner owner (after s op).entries }
+    ensures listed { (d : List ℕ → List ℕ) (owner wall : ℕ) (leaves : List Leaf) → Lawful d owner wall leaves → HasOwner owner (state_of owner leaves).entries }
+    ensures some { (d : List ℕ → List ℕ) (owner wall : ℕ) (leaves : List Leaf) → Lawful d owner wall leaves → 0 < length (state_of owner leaves).entries }
+{}
+
+/// Lawful histories leaf by leaf. The empty history is lawful, and one with a leaf more is lawful exactly
+/// where the leaf comes next. Whether a position is lawful depends on the leaves up to it alone, so a
+/// history whose first leaves are lawful and whose later positions are lawful one by one is lawful.
+pub fn extensions()
+    ensures empty { (d : List ℕ → List ℕ) (owner wall : ℕ) → Lawful d owner wall [] }
+    ensures added { (d : List ℕ → List ℕ) (owner wall : ℕ) (leaves : List Leaf) (leaf : Leaf) → Lawful d owner wall (leaves ++ leaf ∷ []) ↔ Lawful d owner wall leaves × ComesNext d (state_of owner leaves) wall (length leaves) leaf }
+    ensures next { (owner : ℕ) (leaves : List Leaf) (k : ℕ) (leaf : Leaf) → slice_get leaves k ≡ Some leaf → state_of owner (take (k + 1) leaves) ≡ after (state_of owner (take k leaves)) leaf.op }
+    ensures position { (d : List ℕ → List ℕ) (owner wall : ℕ) (leaves : List Leaf) (k : ℕ) (leaf : Leaf) → slice_get leaves k ≡ Some leaf → IsLawfulAt d owner wall leaves k leaf ↔ ComesNext d (state_of owner (take k leaves)) wall k leaf }
+    ensures prefix { (d : List ℕ → List ℕ) (owner wall : ℕ) (left right : List Leaf) (n k : ℕ) (leaf : Leaf) → take n left ≡ take n right → k < n → IsLawfulAt d owner wall left k leaf → IsLawfulAt d owner wall right k leaf }
+    ensures rest { (d : List ℕ → List ℕ) (owner wall : ℕ) (leaves : List Leaf) (n : ℕ) → Lawful d owner wall (take n leaves) → ((k : ℕ) (leaf : Leaf) → n ≤ k → slice_get leaves k ≡ Some leaf → IsLawfulAt d owner wall leaves k leaf) → Lawful d owner wall leaves }
 {}

@@ -11,4 +11,4 @@ mod tests;
 
 pub use law::{judge_found, judge_op};
 pub use refusal::LawRefusal;
-pub use state::{State, follow, genesis};
+pub use state::{State, follow, genesis, state_after};

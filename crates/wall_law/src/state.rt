@@ -1,7 +1,7 @@
 ghost use Rattle.std.specs.Prelude.{◌≡◌, ◌+◌, ◌-◌, ◌<◌, ◌^◌, IfOk, OnOk, OnErr};
 ghost use Rattle.op_types.specs.Spelling.{IsOp};
 ghost use Rattle.tree_model.specs.AccessList.{IsRising, change_by, changed_set};
-ghost use Rattle.wall_law.specs.State.{opening, change_of, after};
+ghost use Rattle.wall_law.specs.State.{opening, change_of, epoch_after, after};
 
 use fr_bytes::{NoMemory, Sequence};
 use op_types::{Kind, OWNER, Op};
@@ -62,9 +62,35 @@ fn entries_after(alloc: Global, entries: &Entries, op: &Op) -> Result<Vec<Entry>
     changed(alloc, list, &op.kind)
 }
 
-/// Makes `state` the one after `op`: the author's next number is one more than the operation's, an
-/// admitted user begins with the operation's role and the next number 0, a removed user is gone, and a
-/// change adds one to the epoch. On want of memory `state` is as before.
+/// The epoch after an operation.
+fn epoch_after(epoch: u64, op: &Op) -> u64
+    requires { epoch < 2 ^ 64 - 1 }
+    ensures { result ≡ epoch_after epoch op.now }
+{
+    if op.kind.is_change() {
+        epoch + 1
+    } else {
+        epoch
+    }
+}
+
+/// The state after `op` in place of `state`: the author's next number is one more than the operation's,
+/// an admitted user begins with the operation's role and the next number 0, a removed user is gone, and
+/// a change adds one to the epoch.
+pub fn state_after(alloc: Global, state: &State, op: &Op) -> Result<State, NoMemory>
+    requires spelled { IsOp op.now }
+    requires epoch { state.now.epoch < 2 ^ 64 - 1 }
+    ensures value { IfOk result (λ s. s ≡ after state.now op.now) }
+    ensures rising { IfOk result (λ s. IsRising state.now.entries → IsRising s.entries) }
+{
+    let list = entries_after(alloc, &state.entries, op)?;
+    Ok(State {
+        entries: Sequence::of(list),
+        epoch: epoch_after(state.epoch, op),
+    })
+}
+
+/// Makes `state` the one after `op`, as [`state_after`] has it. On want of memory it is as before.
 pub fn follow(alloc: Global, state: &mut State, op: &Op) -> Result<(), NoMemory>
     requires spelled { IsOp op.now }
     requires epoch { state.old.epoch < 2 ^ 64 - 1 }
@@ -72,10 +98,6 @@ pub fn follow(alloc: Global, state: &mut State, op: &Op) -> Result<(), NoMemory>
     ensures refused { OnErr result (state.new ≡ state.old) }
     ensures rising { IsRising state.old.entries → IsRising state.new.entries }
 {
-    let list = entries_after(alloc, &state.entries, op)?;
-    state.entries = Sequence::of(list);
-    if op.kind.is_change() {
-        state.epoch += 1;
-    }
+    *state = state_after(alloc, state, op)?;
     Ok(())
 }

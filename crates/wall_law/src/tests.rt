@@ -146,4 +146,7 @@ fn laws_are_called() {
     laws::states();
     laws::histories();
     laws::positions();
+    laws::changes();
+    laws::owners();
+    laws::extensions();
 }

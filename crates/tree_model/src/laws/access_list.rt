@@ -1,7 +1,9 @@
 ghost use Rattle.fr_digest.specs.Digest.{IsDigest};
-ghost use Rattle.std.specs.Prelude.{◌≡◌, ◌<◌, ◌⊎◌, ℕ, List, ◌∷◌, Some, length, true, false};
+ghost use Rattle.std.specs.Prelude.{◌≡◌, ◌≢◌, ◌<◌, ◌⊎◌, ℕ, List, ◌∷◌, None, Some, length, option_map, true, false};
+ghost use Rattle.std.specs.List.{Contains};
 ghost use Rattle.tree_model.specs.declared.entry.Entry.{Entry};
-ghost use Rattle.tree_model.specs.AccessList.{IsRising, ListChange, changed_set, dict, greatest, greater, is_above, node_text, set_digest, smaller};
+ghost use Rattle.tree_model.specs.AccessList.{IsRising, ListChange, changed_set, dict, entry_of, greatest, greater, is_above, node_text, set_digest, smaller, with_entry, with_next, without};
+ghost use Rattle.tree_model.specs.Treap.{IsTreap, Treap, in_order, treap_digest};
 
 use fr_digest::Digester;
 
@@ -22,4 +24,28 @@ pub fn digests<D: Digester>()
 /// The set that an operation leaves is again one whose users rise.
 pub fn changes()
     ensures { (es : List Entry) (author next : ℕ) (change : ListChange) → IsRising es → IsRising (changed_set es author next change) }
+{}
+
+/// A list whose users rise is known by its members, so its digest depends on the set alone.
+pub fn sets<D: Digester>()
+    ensures same { (xs ys : List Entry) → IsRising xs → IsRising ys → ((e : Entry) → Contains xs e → Contains ys e) → ((e : Entry) → Contains ys e → Contains xs e) → xs ≡ ys }
+    ensures digest { (xs ys : List Entry) → IsRising xs → IsRising ys → ((e : Entry) → Contains xs e → Contains ys e) → ((e : Entry) → Contains ys e → Contains xs e) → set_digest D.digest_of xs ≡ set_digest D.digest_of ys }
+{}
+
+/// Each set has one treap, and the digest of the set is that of its treap.
+pub fn treaps<D: Digester>()
+    ensures some { (es : List Entry) → IsRising es → (t : Treap) × IsTreap t × (in_order t ≡ es) }
+    ensures one { (t s : Treap) → IsTreap t → IsTreap s → in_order t ≡ in_order s → t ≡ s }
+    ensures digest { (t : Treap) → IsTreap t → treap_digest D.digest_of t ≡ set_digest D.digest_of (in_order t) }
+    ensures dict { (t : Treap) → IsTreap t → 0 < length (in_order t) → treap_digest D.digest_of t ≡ Some (dict D.digest_of (in_order t)) }
+{}
+
+/// What a change leaves of each user's entry.
+pub fn look_ups()
+    ensures next_own { (user next : ℕ) (es : List Entry) → entry_of (with_next user next es) user ≡ option_map (λ (e : Entry). record { user = e.user; role = e.role; next = next }) (entry_of es user) }
+    ensures next_other { (user next u : ℕ) (es : List Entry) → u ≢ user → entry_of (with_next user next es) u ≡ entry_of es u }
+    ensures added_own { (e : Entry) (es : List Entry) → entry_of (with_entry e es) e.user ≡ Some e }
+    ensures added_other { (e : Entry) (u : ℕ) (es : List Entry) → u ≢ e.user → entry_of (with_entry e es) u ≡ entry_of es u }
+    ensures dropped_own { (user : ℕ) (es : List Entry) → entry_of (without user es) user ≡ None }
+    ensures dropped_other { (user u : ℕ) (es : List Entry) → u ≢ user → entry_of (without user es) u ≡ entry_of es u }
 {}

@@ -1,4 +1,4 @@
-use Rattle.std.proofs.Common.{◌≡◌, ◌<◌, ◌≤◌, ◌∙◌, sym, ◌+◌, length, take, drop, rules, arith}
+use Rattle.std.proofs.Common.{◌<◌, sym, length, take, drop, rules, arith}
 use Rattle.std.proofs.lemmas.List.{length-take-le, length-drop}
 use Rattle.tree_model.specs.AccessList.{IsRising}
 use Rattle.tree_model.proofs.AccessLists.{rising-take, rising-drop, set_digest-none, set_digest-parts}

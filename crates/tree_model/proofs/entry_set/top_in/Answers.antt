@@ -1,5 +1,4 @@
-use Rattle.std.proofs.Common.{◌≡◌, ◌∙◌, sym, Some, true, false, arith}
-use Rattle.tree_model.specs.declared.entry.Entry.{Entry}
+use Rattle.std.proofs.Common.{◌∙◌, sym, arith}
 use Rattle.tree_model.proofs.AccessLists.{place-some, top-begins, greatest-takes, greatest-keeps, greatest-done}
 use Rattle.tree_model.specs.AccessList.{top_of}
 use Rattle.tree_model.proofs.entry_set.top_in.Goals as goal

@@ -1,4 +1,4 @@
-use Rattle.std.proofs.Common.{◌≡◌, ◌<◌, length, drop, Some}
+use Rattle.std.proofs.Common.{◌≡◌, drop, Some}
 use Rattle.std.specs.Prelude.{slice_get}
 use Rattle.tree_model.specs.AccessList.{priority_hash, greatest, top_of}
 use Rattle.tree_model.proofs.entry_set.top_in.Given as goal
