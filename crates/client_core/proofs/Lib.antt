@@ -1,0 +1,5 @@
+pub mod Rows
+pub mod Judgements
+pub mod RecordLaws
+pub mod OperationLaws
+pub mod FollowingLaws

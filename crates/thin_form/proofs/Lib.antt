@@ -1,0 +1,4 @@
+pub mod LeafTexts
+pub mod MessageLemmas
+pub mod ThinScriptLemmas
+pub mod ReportLemmas

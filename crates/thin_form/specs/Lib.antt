@@ -1,0 +1,5 @@
+pub mod ThinScript
+pub mod ThinReading
+pub mod Verbs
+pub mod Report
+pub mod ThinMessages
