@@ -6,7 +6,7 @@ use Rattle.fr_edges.specs.Source.{SourceView, with_front}
 use Rattle.fr_edges.specs.Sink.{SinkView, with_more, Writes}
 use Rattle.frient_run.specs.Ends.{Fed, Spoke, most_script}
 use Rattle.frient_run.specs.Input.{Piece}
-use Rattle.frient_run.proofs.LaneRuns.{Rose-from}
+use Rattle.frient_run.proofs.Wires.{Rose-from, more_more}
 
 -- ---- reading
 
@@ -61,10 +61,6 @@ nothing_said (Some xs) = ap (λ (ys : List ℕ). Some ys) (sym (append-nil xs))
 
 pub says_nothing : (before : SinkView) (text : List ℕ) → HasSaid before before text text
 says_nothing before text = record { said = []; parts = refl; written = nothing_said before.written; never_falls = omega arith }
-
-more_more : (written : Option (List ℕ)) (xs ys : List ℕ) → with_more (with_more written xs) ys ≡ with_more written (xs ++ ys)
-more_more None xs ys = refl
-more_more (Some zs) xs ys = ap (λ (ws : List ℕ). Some ws) (append_assoc zs xs ys)
 
 pub says_more : (before now next : SinkView) (text rest : List ℕ) (n : ℕ) → HasSaid before now text rest → Writes now next rest (Ok n) → HasSaid before next text (drop n rest)
 says_more before now next text rest n h w = record {

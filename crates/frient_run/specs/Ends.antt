@@ -1,31 +1,37 @@
 -- How a call ends: what was read, what came of it, and what was said.
-use Rattle.std.specs.Prelude.{◌≡◌, ℕ, ◌+◌, ◌<◌, ◌≤◌, ◌⊎◌, List, [], ◌∷◌, codes, length, take, map, replicate, Option, Some, None, IfSome, Bool, true, false, ◌==◌, if◌then◌else◌, slice_get, slice_set}
-use Rattle.std.specs.List.{list_any, AllZip}
-use Rattle.fr_digest.specs.Collision.{Strings, Collides}
+use Rattle.std.specs.Prelude.{◌≡◌, ℕ, ◌+◌, ◌<◌, ◌≤◌, ◌⊎◌, List, [], ◌∷◌, codes, length, take, map, replicate, Some, IfSome, true, false, ◌==◌, if◌then◌else◌, slice_get, slice_set}
+use Rattle.std.specs.List.{flat_map, AllByRecursion}
 use Rattle.fr_edges.specs.Faults.{Rose}
 use Rattle.fr_edges.specs.Source.{SourceView, with_front}
 use Rattle.fr_edges.specs.Sink.{SinkView, with_more}
 use Rattle.fr_edges.specs.Wire.{WireView}
-use Rattle.tree_model.specs.History.{root}
-use Rattle.frient_run.specs.declared.thin_script.Line.{Line}
-use Rattle.frient_run.specs.declared.outcome.Outcome.{Outcome}
-use Rattle.frient_run.specs.declared.outcome.CommandEnd.{CommandEnd}
-use Rattle.frient_run.specs.declared.outcome.CommandEnd.TheVariants as ends
-use Rattle.frient_run.specs.declared.outcome.WallEnd.{WallEnd}
-use Rattle.frient_run.specs.declared.outcome.AuditLine.{AuditLine}
-use Rattle.frient_run.specs.declared.outcome.AuditLine.TheVariants as audits
+use Rattle.tree_model.specs.History.{root_of_all}
+use Rattle.op_types.specs.declared.op.Op.{Op}
+use Rattle.op_types.specs.declared.op.Leaf.{Leaf}
+use Rattle.wall_law.specs.Lawful.{Lawful}
+use Rattle.thin_form.specs.declared.thin_script.Line.{Line}
+use Rattle.thin_form.specs.ThinScript.{IsThinScript, IsNoThinScript}
+use Rattle.thin_form.specs.declared.outcome.Outcome.{Outcome}
+use Rattle.thin_form.specs.declared.outcome.WallEnd.{WallEnd}
+use Rattle.thin_form.specs.declared.outcome.AuditLine.{AuditLine}
+use Rattle.thin_form.specs.declared.outcome.AuditLine.TheVariants as audits
+use Rattle.thin_form.specs.Report.{report_text}
+use Rattle.client_core.specs.declared.side.Took.{Took}
+use Rattle.client_core.specs.Asking.{ClientView}
+use Rattle.client_core.specs.Judging.{texts_of}
+use Rattle.client_core.specs.Records.{acceptance_of}
 use Rattle.frient_run.specs.declared.record.ThinTook.{ThinTook}
 use Rattle.frient_run.specs.declared.fate.Refusal.{Refusal}
 use Rattle.frient_run.specs.declared.fate.Refusal.TheVariants as refusals
 use Rattle.frient_run.specs.declared.fate.Told.{Told}
 use Rattle.frient_run.specs.declared.fate.Fate.{Fate}
 use Rattle.frient_run.specs.declared.fate.Fate.TheVariants as fates
-use Rattle.frient_run.specs.Client.{newcomer}
-use Rattle.frient_run.specs.Lane.{LaneState, LaneRun, Exchange, exchanges_of, dids, placed}
-use Rattle.frient_run.specs.Records.{Extends, first_difference, acceptances, acceptance_of}
-use Rattle.frient_run.specs.Report.{report_text}
-use Rattle.frient_run.specs.Server.{posts}
-use Rattle.frient_run.specs.ThinScript.{IsThinScript, IsNoThinScript}
+use Rattle.frient_run.specs.Fixture.{fixture, start}
+use Rattle.frient_run.specs.Lane.{RunState, RunSoFar, placed, all_dids}
+use Rattle.frient_run.specs.Audit.{audit_of}
+use Rattle.frient_run.specs.Auditing.{Says}
+use Rattle.frient_run.specs.Accounts.{LostExactly, acceptances, outcomes_by}
+use Rattle.frient_run.specs.Untampered.{any_failed}
 
 -- ---- words and source
 
@@ -46,78 +52,73 @@ pub record Fed (before now : SourceView) (bytes : List ℕ) : Type 0 where
 
 -- ---- statuses
 
--- a command that was rejected or lost
-abbrev pub is_failed : CommandEnd → Bool
-is_failed (ends.Accepted size from) = false
-is_failed (ends.Same size) = false
-is_failed (ends.Rejected verdict) = true
-is_failed ends.Lost = true
-
-abbrev pub any_failed : List Outcome → Bool
-any_failed outcomes = list_any (λ o. is_failed o.end) outcomes
-
--- 4 where the audit found a collision, else 1 where a command was rejected or lost, else 0
+-- 5 where the audit found a forgery, 4 where it found a collision, else 1 where a command was rejected or
+-- lost, else 0
 abbrev pub status_of : List Outcome → AuditLine → ℕ
+status_of outcomes (audits.Forged user op) = 5
 status_of outcomes (audits.Collision a b) = 4
 status_of outcomes (audits.Sound records grounded) = if any_failed outcomes then 1 else 0
 
--- ---- the audit's line
+-- ---- what is handed out
 
-abbrev pub audit_line : ℕ → Option Strings → AuditLine
-audit_line records None = audits.Sound records records
-audit_line records (Some strings) = audits.Collision strings.a strings.b
+-- a user's records
+abbrev pub thin_took : ℕ → Took → ThinTook
+thin_took user t = record { user = user; have = t.have; leaves = t.leaves }
 
--- the audit's answer on these records
-abbrev pub audit_of : (List ℕ → List ℕ) → List ThinTook → AuditLine
-audit_of d took = audit_line (length took) (first_difference d [] took)
+abbrev pub thin_records : List ClientView → List ThinTook
+thin_records clients = flat_map (λ (c : ClientView). map (thin_took c.user) c.took) clients
 
--- where the line shows two strings, they are different and have one digest
-abbrev pub Shows : (List ℕ → List ℕ) → AuditLine → Type 0
-Shows d (audits.Sound records grounded) = Unit {0}
-Shows d (audits.Collision a b) = Collides d (record { a = a; b = b })
+-- and the operations that a user signed
+abbrev pub by_user : ℕ → Op → ℕ × Op
+by_user user op = (user, op)
 
--- where the line is sound, each record extends the one before
-abbrev pub Upholds : List ThinTook → AuditLine → Type 0
-Upholds took (audits.Sound records grounded) = Extends [] took
-Upholds took (audits.Collision a b) = Unit {0}
+abbrev pub thin_signed : List ClientView → List (ℕ × Op)
+thin_signed clients = flat_map (λ (c : ClientView). map (by_user c.user) c.signed) clients
+
+-- ---- what each client may rely on
+
+-- each of a client's records is a lawful history of the wall
+abbrev pub AreLawful : (List ℕ → List ℕ) → ClientView → Type 0
+AreLawful d c = AllByRecursion (λ (t : Took). Lawful d 1 1 t.leaves) c.took
+
+-- Where the audit found neither forgery nor collision, each record of each client is lawful.
+abbrev pub UpholdsLaw : (List ℕ → List ℕ) → List ClientView → AuditLine → Type 0
+UpholdsLaw d clients (audits.Sound records grounded) = AllByRecursion (AreLawful d) clients
+UpholdsLaw d clients (audits.Collision a b) = Unit {0}
+UpholdsLaw d clients (audits.Forged user op) = Unit {0}
+
+-- a client's records are what its accepted commands told, in order
+abbrev pub IsAccepted : List Outcome → ClientView → Type 0
+IsAccepted outcomes c = acceptances (outcomes_by c.user outcomes) ≡ map acceptance_of c.took
 
 -- ---- a whole run
 
 -- the server's list at the end, with a root of zero bytes where it is empty
-abbrev pub wall_end : (List ℕ → List ℕ) → List (List ℕ) → WallEnd
-wall_end d list = record { size = length list; root = if length list == 0 then replicate 32 0 else root d list (length list) }
-
--- nobody has done anything
-abbrev pub opening : WireView → LaneState
-opening wire = record { client = record { side = newcomer; outcomes = []; took = [] }; list = []; wire = wire }
-
--- a command is lost exactly where its exchange delivered nothing
-abbrev pub LostExactly : Outcome → Exchange → Type 0
-LostExactly o x = ((o.end ≡ ends.Lost) → (x.carried.delivered ≡ None)) × ((x.carried.delivered ≡ None) → (o.end ≡ ends.Lost))
+abbrev pub wall_end : (List ℕ → List ℕ) → List Leaf → WallEnd
+wall_end d leaves = record { size = length leaves; root = if length leaves == 0 then replicate 32 0 else root_of_all d (texts_of leaves) }
 
 -- A run of these lines over the wire, and what its clients, its server and its audit say of it. The
--- outcomes, the records, what was carried and what was delivered stand in `run`.
+-- outcomes, the calls on the wall, what was carried and what was delivered stand in `run`.
 pub record Promise (d : List ℕ → List ℕ) (lines : List Line) (wire wire' : WireView) (told : Told) : Type 0 where
-  pub end : LaneState
-  pub run : LaneRun d (opening wire) end (placed lines)
-  pub wired : end.wire ≡ wire'
-  pub recorded : told.records ≡ end.client.took
-  pub accepted : acceptances end.client.outcomes ≡ map acceptance_of told.records
-  pub listed : end.list ≡ posts lines
-  pub untampered : wire.straight ≡ true → any_failed end.client.outcomes ≡ false
-  pub lost : AllZip LostExactly end.client.outcomes (exchanges_of (dids d newcomer run.heard))
-  pub sound : Upholds told.records (audit_of d told.records)
-  pub shown : Shows d (audit_of d told.records)
-  pub status : told.status ≡ status_of end.client.outcomes (audit_of d told.records)
-  pub text : told.text ≡ report_text end.client.outcomes (wall_end d end.list) (audit_of d told.records) told.status
+  pub now : RunState
+  pub run : RunSoFar d fixture start wire now (placed lines)
+  pub wired : now.wire ≡ wire'
+  pub recorded : told.records ≡ thin_records now.clients
+  pub wrote : told.signed ≡ thin_signed now.clients
+  pub accepted : AllByRecursion (IsAccepted now.outcomes) now.clients
+  pub lost : AllByRecursion LostExactly (all_dids d fixture start run.heards)
+  pub untampered : wire.straight ≡ true → any_failed now.outcomes ≡ false
+  pub audited : Says d fixture now.clients (audit_of d now.clients)
+  pub lawful : UpholdsLaw d now.clients (audit_of d now.clients)
+  pub status : told.status ≡ status_of now.outcomes (audit_of d now.clients)
+  pub text : told.text ≡ report_text now.outcomes (wall_end d now.leaves) (audit_of d now.clients) told.status
 
--- what client and server came to, audited and told
-pub record Tells (d : List ℕ → List ℕ) (outcomes : List Outcome) (took : List ThinTook) (list : List (List ℕ)) (told : Told) : Type 0 where
-  pub recorded : told.records ≡ took
-  pub sound : Upholds took (audit_of d took)
-  pub shown : Shows d (audit_of d took)
-  pub status : told.status ≡ status_of outcomes (audit_of d took)
-  pub text : told.text ≡ report_text outcomes (wall_end d list) (audit_of d took) told.status
+-- what clients and wall came to, audited and told
+pub record Tells (d : List ℕ → List ℕ) (clients : List ClientView) (outcomes : List Outcome) (leaves : List Leaf) (told : Told) : Type 0 where
+  pub recorded : told.records ≡ thin_records clients
+  pub wrote : told.signed ≡ thin_signed clients
+  pub status : told.status ≡ status_of outcomes (audit_of d clients)
+  pub text : told.text ≡ report_text outcomes (wall_end d leaves) (audit_of d clients) told.status
 
 -- a run over the first of the wires, which changes no other
 pub record RunsOver {W : Type 0} (d : List ℕ → List ℕ) (lines : List Line) (view : W → WireView) (wires wires' : List W) (told : Told) : Type 0 where
@@ -186,14 +187,19 @@ records_of_fate (fates.Whole told) = told.records
 records_of_fate (fates.Refused refusal) = []
 records_of_fate fates.Unread = []
 
+abbrev pub signed_of_fate : Fate → List (ℕ × Op)
+signed_of_fate (fates.Whole told) = told.signed
+signed_of_fate (fates.Refused refusal) = []
+signed_of_fate fates.Unread = []
+
 -- The whole text was written; or a write failed, and what was written is a part of its front.
 abbrev pub Spoke : SinkView → SinkView → List ℕ → ℕ → ℕ → Type 0
 Spoke before now text want status =
     ((status ≡ want) × (now.written ≡ with_more before.written text))
     ⊎ ((status ≡ 3) × Rose before.faults now.faults × ((n : ℕ) × (n < length text) × (now.written ≡ with_more before.written (take n text))))
 
--- How a call ends: for want of memory, with nothing written and no records; or by its fate.
-abbrev pub Ends : (List ℕ → List ℕ) → List (List ℕ) → SourceView → SourceView → SinkView → SinkView → List WireView → List WireView → ℕ → List ThinTook → Type 0
-Ends d words source source' sink sink' wires wires' status records =
-    ((status ≡ 6) × (sink'.written ≡ sink.written) × (records ≡ []))
-    ⊎ ((fate : Fate) × Happened d words source source' wires wires' fate × Spoke sink sink' (text_of fate) (wanted fate) status × (records ≡ records_of_fate fate))
+-- How a call ends: for want of memory, with nothing written and nothing handed out; or by its fate.
+abbrev pub Ends : (List ℕ → List ℕ) → List (List ℕ) → SourceView → SourceView → SinkView → SinkView → List WireView → List WireView → ℕ → List ThinTook → List (ℕ × Op) → Type 0
+Ends d words source source' sink sink' wires wires' status records signed =
+    ((status ≡ 6) × (sink'.written ≡ sink.written) × (records ≡ []) × (signed ≡ []))
+    ⊎ ((fate : Fate) × Happened d words source source' wires wires' fate × Spoke sink sink' (text_of fate) (wanted fate) status × (records ≡ records_of_fate fate) × (signed ≡ signed_of_fate fate))

@@ -1,126 +1,192 @@
--- A lane: the commands of a session, what was heard for each, and what client, server and wire make of
--- it. What was heard is the one witness; all else is a function of it.
-use Rattle.std.specs.Prelude.{◌≡◌, ℕ, ◌+◌, ◌≤◌, List, [], ◌∷◌, ◌++◌, map, fold, Option, Some, None, Bool, true}
+-- The commands of a run, what was heard for each, and what clients, wall and wire make of it. What was
+-- heard is the one witness; all else is a function of it.
+use Rattle.std.specs.Prelude.{◌≡◌, ℕ, ◌+◌, ◌≤◌, ◌<◌, ◌^◌, List, [], ◌∷◌, ◌++◌, map, fold, filter, Option, Some, None, IfSome, Bool, true, nat_eq, if◌then◌else◌, slice_get, slice_set, ◌-◌}
 use Rattle.std.specs.List.{scan, flat_map, AllByRecursion, AllZip}
+use Rattle.fr_bytes.specs.Bytes.{IsBytes}
 use Rattle.fr_edges.specs.declared.wire.Carried.{Carried}
 use Rattle.fr_edges.specs.Faults.{Rose}
 use Rattle.fr_edges.specs.Sink.{with_more}
 use Rattle.fr_edges.specs.Wire.{WireView}
-use Rattle.frient_run.specs.declared.thin_script.Line.{Line}
-use Rattle.frient_run.specs.declared.thin_script.Line.TheVariants as lines
-use Rattle.frient_run.specs.declared.outcome.Place.{Place}
-use Rattle.frient_run.specs.declared.outcome.Verb.{Verb}
-use Rattle.frient_run.specs.declared.outcome.Verb.TheVariants as verbs
-use Rattle.frient_run.specs.declared.outcome.Outcome.{Outcome}
-use Rattle.frient_run.specs.declared.client.Side.{Side}
-use Rattle.frient_run.specs.declared.record.ThinTook.{ThinTook}
-use Rattle.frient_run.specs.Client.{judged, end_of, shown_of, side_after, took_of}
-use Rattle.frient_run.specs.Server.{Turn, turns, list_after}
-use Rattle.frient_run.specs.ThinMessages.{request, whole_reply}
+use Rattle.signed_ops.specs.declared.known.Known.{Known}
+use Rattle.wall_law.specs.declared.refusal.LawRefusal.{LawRefusal}
+use Rattle.wall_law.specs.declared.refusal.LawRefusal.TheVariants as laws
+use Rattle.op_types.specs.declared.op.Leaf.{Leaf}
+use Rattle.hall_core.specs.declared.ask.Ask.{Ask}
+use Rattle.hall_core.specs.declared.ask.Ask.TheVariants as asks
+use Rattle.hall_core.specs.declared.ask.Answer.{Answer}
+use Rattle.hall_core.specs.declared.ask.Answer.TheVariants as answers
+use Rattle.hall_core.specs.declared.ask.Cause.{Cause}
+use Rattle.hall_core.specs.declared.ask.Cause.TheVariants.{BadSignature, Unlawful}
+use Rattle.hall_core.specs.Wall.{Hall, answer_to, leaves_after}
+use Rattle.hall_core.specs.Turns.{Called, Turn, turns, play, Legal}
+use Rattle.thin_form.specs.declared.thin_script.Command.{Command}
+use Rattle.thin_form.specs.declared.thin_script.Line.{Line}
+use Rattle.thin_form.specs.declared.outcome.Cause.TheVariants as told
+use Rattle.thin_form.specs.declared.outcome.Cause as toldcause
+use Rattle.thin_form.specs.declared.outcome.CommandEnd.TheVariants as ends
+use Rattle.thin_form.specs.declared.outcome.Decline.{Decline}
+use Rattle.thin_form.specs.declared.outcome.Outcome.{Outcome}
+use Rattle.thin_form.specs.declared.outcome.Place.{Place}
+use Rattle.thin_form.specs.declared.messages.Request.{Request}
+use Rattle.thin_form.specs.declared.messages.Request.TheVariants as requests
+use Rattle.thin_form.specs.declared.messages.Reply.TheVariants as replies
+use Rattle.thin_form.specs.ThinMessages.{IsRequest, IsWhole, cause_detail, request_text, reply_text}
+use Rattle.thin_form.specs.Verbs.{verb_of}
+use Rattle.client_core.specs.Asking.{ClientView, client_view, decline_of, asked, having_asked}
+use Rattle.client_core.specs.declared.client.Client.{Client}
+use Rattle.client_core.specs.Judging.{judged}
+use Rattle.client_core.specs.Hearing.{end_of, shown_of, having_heard}
+use Rattle.frient_run.specs.Fixture.{users}
 
 -- ---- commands, and what was heard for them
 
-pub record Command : Type 0 where
+-- a command of a user, and its place
+pub record Placed : Type 0 where
   pub place : Place
-  pub line : Line
+  pub user : ℕ
+  pub command : Command
 
--- the lines of session 1 of phase 1, numbered from `number` on
-abbrev pub placed_from : ℕ → List Line → List Command
-placed_from number [] = []
-placed_from number (line ∷ lines) = record { place = record { phase = 1; session = 1; command = number }; line = line } ∷ placed_from (number + 1) lines
+-- The place of a command behind another's: the next one of the same user's session, or the first one of
+-- the only session of the next phase.
+abbrev pub next_place : Place → ℕ → ℕ → Place
+next_place place before user =
+    if nat_eq user before
+    then record { phase = place.phase; session = 1; command = place.command + 1 }
+    else record { phase = place.phase + 1; session = 1; command = 1 }
 
-abbrev pub placed : List Line → List Command
-placed lines = placed_from 1 lines
+-- Lines of one user that follow each other are one session, in a phase of its own.
+abbrev pub placed_behind : Place → ℕ → List Line → List Placed
+placed_behind place before [] = []
+placed_behind place before (line ∷ lines) = record { place = next_place place before line.user; user = line.user; command = line.command } ∷ placed_behind (next_place place before line.user) line.user lines
+
+abbrev pub nowhere : Place
+nowhere = record { phase = 0; session = 1; command = 0 }
+
+abbrev pub placed : List Line → List Placed
+placed lines = placed_behind nowhere 0 lines
 
 -- A command, the reply that was handed to the wire, what was delivered, and the wire's count of faults
--- afterwards.
+-- afterwards. Where the client asked nothing, the reply is empty and nothing was delivered.
 pub record Heard : Type 0 where
-  pub command : Command
+  pub placed : Placed
   pub reply : List ℕ
   pub delivered : Option (List ℕ)
   pub faults : ℕ
 
 -- ---- what a command did
 
--- One carry over a wire, and the wire's count of faults after it.
+-- One carry over a wire: what was asked, what was carried, and the wire's count of faults after it.
 pub record Exchange : Type 0 where
+  pub ask : Request
   pub carried : Carried
   pub faults : ℕ
 
-abbrev pub exchange : List ℕ → List ℕ → Option (List ℕ) → ℕ → Exchange
-exchange request reply delivered faults = record { carried = record { request = request; reply = reply; delivered = delivered }; faults = faults }
+abbrev pub exchange : Request → List ℕ → Option (List ℕ) → ℕ → Exchange
+exchange ask reply delivered faults = record { ask = ask; carried = record { request = request_text ask; reply = reply; delivered = delivered }; faults = faults }
 
 pub record Did : Type 0 where
-  pub asks : List Line
   pub exchanges : List Exchange
   pub outcome : Outcome
-  pub took : List ThinTook
 
-abbrev pub verb_of : Line → Verb
-verb_of (lines.Post text) = verbs.Post
-verb_of lines.Read = verbs.Read
+-- what a client declined
+abbrev pub declined_outcome : Placed → Decline → Outcome
+declined_outcome p decline = record { place = p.place; user = p.user; verb = verb_of p.command; end = ends.Declined decline; shown = [] }
 
--- what a client reports of a command, given what was delivered
-abbrev pub outcome_of : (List ℕ → List ℕ) → Side → Command → Option (List ℕ) → Outcome
-outcome_of d side command delivered = record {
-  place = command.place;
-  verb = verb_of command.line;
-  end = end_of side (judged d side delivered);
-  shown = shown_of side (judged d side delivered);
+-- what a client tells of a command, given what was delivered
+abbrev pub heard_outcome : (List ℕ → List ℕ) → Known → ClientView → Heard → Outcome
+heard_outcome d known c h = record {
+  place = h.placed.place;
+  user = h.placed.user;
+  verb = verb_of h.placed.command;
+  end = end_of c.side (judged d known c.side (request_text (asked known c h.placed.command)) h.delivered);
+  shown = shown_of c.side (judged d known c.side (request_text (asked known c h.placed.command)) h.delivered);
 }
 
-abbrev pub did : (List ℕ → List ℕ) → Side → Heard → Did
-did d side h = record {
-  asks = h.command.line ∷ [];
-  exchanges = exchange (request h.command.line) h.reply h.delivered h.faults ∷ [];
-  outcome = outcome_of d side h.command h.delivered;
-  took = took_of side (judged d side h.delivered);
-}
+abbrev pub did_or : (List ℕ → List ℕ) → Known → ClientView → Heard → Option Decline → Did
+did_or d known c h (Some decline) = record { exchanges = []; outcome = declined_outcome h.placed decline }
+did_or d known c h None = record { exchanges = exchange (asked known c h.placed.command) h.reply h.delivered h.faults ∷ []; outcome = heard_outcome d known c h }
 
-abbrev pub after : (List ℕ → List ℕ) → Side → Heard → Side
-after d side h = side_after side (judged d side h.delivered)
+-- what a client did for a command
+unfoldable pub did : (List ℕ → List ℕ) → Known → ClientView → Heard → Did
+did d known c h = did_or d known c h (decline_of known c.user c.side h.placed.command)
 
--- what the commands did, in order, and what the client has accepted at the end
-abbrev pub dids : (List ℕ → List ℕ) → Side → List Heard → List Did
-dids d side heard = scan (after d) (did d) side heard
+abbrev pub after_or : (List ℕ → List ℕ) → Known → ClientView → Heard → Option Decline → ClientView
+after_or d known c h (Some decline) = c
+after_or d known c h None = having_heard d known (having_asked known c h.placed.command) (request_text (asked known c h.placed.command)) h.delivered
 
-abbrev pub last : (List ℕ → List ℕ) → Side → List Heard → Side
-last d side heard = fold (after d) side heard
+-- and the client afterwards
+unfoldable pub after : (List ℕ → List ℕ) → Known → ClientView → Heard → ClientView
+after d known c h = after_or d known c h (decline_of known c.user c.side h.placed.command)
 
-abbrev pub asks_of : List Did → List Line
-asks_of ds = flat_map (λ x. x.asks) ds
+-- ---- the users of a run
+
+-- what was heard for a user's commands
+abbrev pub stream : ℕ → List Heard → List Heard
+stream user heards = filter (λ (h : Heard). nat_eq h.placed.user user) heards
+
+-- what the commands of one client did, in order, and the client at the end
+abbrev pub dids : (List ℕ → List ℕ) → Known → ClientView → List Heard → List Did
+dids d known c heards = scan (after d known) (did d known) c heards
+
+abbrev pub last : (List ℕ → List ℕ) → Known → ClientView → List Heard → ClientView
+last d known c heards = fold (after d known) c heards
+
+-- a user's client, after what was heard
+abbrev pub client_of : (List ℕ → List ℕ) → Known → (ℕ → ClientView) → ℕ → List Heard → ClientView
+client_of d known start user heards = last d known (start user) (stream user heards)
+
+-- what a command did, after what was heard before it
+abbrev pub did_behind : (List ℕ → List ℕ) → Known → (ℕ → ClientView) → List Heard → Heard → Did
+did_behind d known start heards h = did d known (client_of d known start h.placed.user heards) h
+
+-- what all of the commands did, in order
+abbrev pub all_dids : (List ℕ → List ℕ) → Known → (ℕ → ClientView) → List Heard → List Did
+all_dids d known start heards = scan (λ (hs : List Heard) (h : Heard). hs ++ h ∷ []) (did_behind d known start) [] heards
 
 abbrev pub exchanges_of : List Did → List Exchange
-exchanges_of ds = flat_map (λ x. x.exchanges) ds
+exchanges_of ds = flat_map (λ (x : Did). x.exchanges) ds
 
 abbrev pub outcomes_of : List Did → List Outcome
-outcomes_of ds = map (λ x. x.outcome) ds
+outcomes_of ds = map (λ (x : Did). x.outcome) ds
 
-abbrev pub records_of : List Did → List ThinTook
-records_of ds = flat_map (λ x. x.took) ds
+-- ---- the wall's half
 
--- ---- the three halves
+-- what is asked of the wall
+abbrev pub ask_of : Request → Ask
+ask_of requests.Look = asks.Look
+ask_of (requests.Append op) = asks.Append op
 
-pub record ClientState : Type 0 where
-  pub side : Side
-  pub outcomes : List Outcome
-  pub took : List ThinTook
+-- a cause, as replies tell it
+abbrev pub law_cause : LawRefusal → toldcause.Cause
+law_cause laws.WrongWall = told.WrongWall
+law_cause laws.NotAllowed = told.NotAllowed
+law_cause (laws.StaleEpoch now) = told.StaleEpoch now
+law_cause (laws.Replayed next) = told.Replayed next
+law_cause laws.BadChange = told.BadChange
+law_cause laws.LateView = told.LateView
 
--- The client knew, reported and recorded what follows from what it heard.
-pub record ClientHalf (d : List ℕ → List ℕ) (before now : ClientState) (commands : List Command) (heard : List Heard) : Type 0 where
-  pub asked : map (λ h. h.command) heard ≡ commands
-  pub told : now.outcomes ≡ before.outcomes ++ outcomes_of (dids d before.side heard)
-  pub kept : now.took ≡ before.took ++ records_of (dids d before.side heard)
-  pub knows : now.side ≡ last d before.side heard
+abbrev pub told_cause : Cause → toldcause.Cause
+told_cause BadSignature = told.BadSignature
+told_cause (Unlawful refusal) = law_cause refusal
 
--- An exchange carries the line's request, and the whole reply of the list that the line's turn leaves.
-abbrev pub Serves : Exchange → Turn → Type 0
-Serves x t = (x.carried.request ≡ request t.ask) × (x.carried.reply ≡ whole_reply t.list)
+-- The reply to a call: all of the leaves that the call left, or the refusal, whose second number fits its
+-- bytes.
+abbrev pub Replies : List ℕ → List Leaf → Answer → Type 0
+Replies reply leaves (answers.Looked size) = (reply ≡ reply_text (replies.Whole leaves)) × IsWhole leaves
+Replies reply leaves (answers.Placed position) = (reply ≡ reply_text (replies.Whole leaves)) × IsWhole leaves
+Replies reply leaves (answers.Refused cause) = (reply ≡ reply_text (replies.Refused (told_cause cause))) × (cause_detail (told_cause cause) < 2 ^ 64)
 
--- The server's list grew by the posts, and each exchange was one of its turns.
-pub record ServerHalf (before now : List (List ℕ)) (asks : List Line) (xs : List Exchange) : Type 0 where
-  pub listed : now ≡ list_after before asks
-  pub served : AllZip Serves xs (turns before asks)
+-- an exchange carries the request of what is asked
+abbrev pub IsSpelled : Exchange → Type 0
+IsSpelled x = x.carried.request ≡ request_text x.ask
+
+-- An exchange carries the reply to a turn that asked what the exchange asks.
+pub record Serves (x : Exchange) (t : Turn) : Type 0 where
+  pub asks : t.call.ask ≡ ask_of x.ask
+  pub request : IsSpelled x
+  pub replies : Replies x.carried.reply t.leaves t.call.answer
+
+-- ---- the wire's half
 
 -- A straight wire delivers the reply.
 abbrev pub Delivery : Bool → Exchange → Type 0
@@ -134,20 +200,89 @@ Counts before (x ∷ xs) now = (before ≤ x.faults) × (x.carried.delivered ≡
 -- The wire carried these exchanges and nothing else.
 pub record WireHalf (before now : WireView) (xs : List Exchange) : Type 0 where
   pub straight : now.straight ≡ before.straight
-  pub carried : now.carried ≡ with_more before.carried (map (λ x. x.carried) xs)
+  pub carried : now.carried ≡ with_more before.carried (map (λ (x : Exchange). x.carried) xs)
   pub through : AllByRecursion (Delivery before.straight) xs
   pub counted : Counts before.faults xs now.faults
 
--- ---- the lane
+-- ---- a run
 
-pub record LaneState : Type 0 where
-  pub client : ClientState
-  pub list : List (List ℕ)
+pub record RunState : Type 0 where
+  pub clients : List ClientView
+  pub outcomes : List Outcome
+  pub leaves : List Leaf
   pub wire : WireView
 
--- A lane ran these commands, from one state to another.
-pub record LaneRun (d : List ℕ → List ℕ) (before now : LaneState) (commands : List Command) : Type 0 where
-  pub heard : List Heard
-  pub client : ClientHalf d before.client now.client commands heard
-  pub server : ServerHalf before.list now.list (asks_of (dids d before.client.side heard)) (exchanges_of (dids d before.client.side heard))
-  pub wire : WireHalf before.wire now.wire (exchanges_of (dids d before.client.side heard))
+-- These commands ran, from clients who had done nothing and an empty wall: each client is its user's,
+-- the wall answered the calls one after the other, and each user's exchanges are the user's turns.
+pub record RunSoFar (d : List ℕ → List ℕ) (known : Known) (start : ℕ → ClientView) (before : WireView) (now : RunState) (commands : List Placed) : Type 0 where
+  pub heards : List Heard
+  pub calls : List Called
+  pub asked : map (λ (h : Heard). h.placed) heards ≡ commands
+  pub bytes : AllByRecursion (λ (h : Heard). IfSome h.delivered IsBytes) heards
+  pub told : now.outcomes ≡ outcomes_of (all_dids d known start heards)
+  pub knows : now.clients ≡ map (λ (user : ℕ). client_of d known start user heards) users
+  pub legal : Legal d known calls
+  pub listed : now.leaves ≡ play d known calls
+  pub served : (user : ℕ) → AllZip Serves (exchanges_of (dids d known (start user) (stream user heards))) (turns d known user calls)
+  pub wire : WireHalf before now.wire (exchanges_of (all_dids d known start heards))
+
+-- ---- one command
+
+-- what the wall made of an exchange
+abbrev pub Turned : (List ℕ → List ℕ) → Known → List Leaf → List Leaf → List Exchange → Type 0
+Turned d known before now [] = now ≡ before
+Turned d known before now (x ∷ xs) = (now ≡ leaves_after d known before (ask_of x.ask)) × Replies x.carried.reply now (answer_to known before (ask_of x.ask)) × (xs ≡ [])
+
+-- A command was done: the client is the one after what was heard, and told the outcome.
+pub record Step (d : List ℕ → List ℕ) (known : Known) (c c' : ClientView) (leaves leaves' : List Leaf) (wire wire' : WireView) (p : Placed) (outcome : Outcome) : Type 0 where
+  pub heard : Heard
+  pub placed : heard.placed ≡ p
+  pub bytes : IfSome heard.delivered IsBytes
+  pub asks : decline_of known c.user c.side p.command ≡ None → IsRequest (asked known c p.command)
+  pub told : outcome ≡ (did d known c heard).outcome
+  pub knows : c' ≡ after d known c heard
+  pub turned : Turned d known leaves leaves' (did d known c heard).exchanges
+  pub carried : WireHalf wire wire' (did d known c heard).exchanges
+
+-- ---- the parts of a command
+
+-- the wall answered what was asked
+pub record Answered (d : List ℕ → List ℕ) (before now : Hall) (ask : Request) (reply : List ℕ) : Type 0 where
+  pub known : now.known ≡ before.known
+  pub leaves : now.leaves ≡ leaves_after d before.known before.leaves (ask_of ask)
+  pub replies : Replies reply now.leaves (answer_to before.known before.leaves (ask_of ask))
+
+-- a request was answered, the reply was carried, and the client heard what was delivered
+pub record Exchanged (d : List ℕ → List ℕ) (known : Known) (c c' : ClientView) (hall hall' : Hall) (wire wire' : WireView) (p : Placed) (ask : Request) (outcome : Outcome) : Type 0 where
+  pub reply : List ℕ
+  pub delivered : Option (List ℕ)
+  pub faults : ℕ
+  pub bytes : IfSome delivered IsBytes
+  pub answered : Answered d hall hall' ask reply
+  pub carried : WireHalf wire wire' (exchange ask reply delivered faults ∷ [])
+  pub knows : c' ≡ having_heard d known c (request_text ask) delivered
+  pub told : outcome ≡ (record { place = p.place; user = p.user; verb = verb_of p.command; end = end_of c.side (judged d known c.side (request_text ask) delivered); shown = shown_of c.side (judged d known c.side (request_text ask) delivered) })
+
+-- a wire carried a request and its reply, and delivered this
+pub record Carries (before now : WireView) (request reply : List ℕ) (delivered : Option (List ℕ)) : Type 0 where
+  pub bytes : IfSome delivered IsBytes
+  pub straight : now.straight ≡ before.straight
+  pub carried : now.carried ≡ with_more before.carried (record { request = request; reply = reply; delivered = delivered } ∷ [])
+  pub through : before.straight ≡ true → delivered ≡ Some reply
+  pub never_falls : before.faults ≤ now.faults
+  pub lost : delivered ≡ None → Rose before.faults now.faults
+
+-- ---- a line of a run
+
+-- One client did a command, and the others stayed as they were.
+pub record LineRun (d : List ℕ → List ℕ) (known : Known) (before now : RunState) (p : Placed) : Type 0 where
+  pub c : ClientView
+  pub c' : ClientView
+  pub outcome : Outcome
+  pub at : slice_get before.clients (p.user - 1) ≡ Some c
+  pub clients : now.clients ≡ slice_set before.clients (p.user - 1) c'
+  pub outcomes : now.outcomes ≡ before.outcomes ++ outcome ∷ []
+  pub step : Step d known c c' before.leaves now.leaves before.wire now.wire p outcome
+
+abbrev pub run_state : List Client → List Outcome → List Leaf → WireView → RunState
+run_state clients outcomes leaves wire = record { clients = map client_view clients; outcomes = outcomes; leaves = leaves; wire = wire }

@@ -1,11 +1,8 @@
-pub mod ThinScript
-pub mod ThinReading
-pub mod Report
-pub mod ThinMessages
-pub mod Client
-pub mod Server
+pub mod Fixture
 pub mod Lane
-pub mod Hearing
-pub mod Records
+pub mod Accounts
+pub mod Untampered
+pub mod Audit
+pub mod Auditing
 pub mod Ends
 pub mod Input

@@ -1,4 +1,4 @@
-use crate::record::ThinTooks;
+use crate::record::{ThinSigned, ThinTooks};
 use fr_bytes::Bytes;
 
 /// What a call refuses.
@@ -10,12 +10,14 @@ pub enum Refusal {
     Script,
 }
 
-/// A whole run: its report, its status where each write is taken, and its records.
+/// A whole run: its report, its status where each write is taken, its records and its signed
+/// operations.
 #[derive(Debug, Drop)]
 pub struct Told {
     pub text: Bytes,
     pub status: u8,
     pub records: ThinTooks,
+    pub signed: ThinSigned,
 }
 
 /// What comes of a call that doesn't want memory, before its first byte is written.

@@ -1,18 +1,20 @@
-ghost use Rattle.std.specs.Prelude.{◌≡◌, ◌∷◌, [], ◌<◌, ◌^◌, ◌≤◌, length, IfOk, OnOk, Some, None};
-ghost use Rattle.frient_run.specs.Hearing.{lane_state, IsRoomy};
-ghost use Rattle.frient_run.specs.Lane.{Command, LaneRun, WireHalf, placed, exchange};
-ghost use Rattle.frient_run.specs.Server.{after_line};
-ghost use Rattle.frient_run.specs.ThinMessages.{IsWhole};
+ghost use Rattle.std.specs.Prelude.{◌≡◌, ◌≢◌, ◌<◌, ◌≤◌, ◌∷◌, [], length, None, IfOk, OnOk, IfSome};
+ghost use Rattle.fr_bytes.specs.Bytes.{IsBytes};
+ghost use Rattle.client_core.specs.Asking.{IsReady, client_view};
+ghost use Rattle.thin_form.specs.ThinMessages.{request_of, request_text};
+ghost use Rattle.thin_form.specs.ThinScript.{IsThinCommand};
+ghost use Rattle.frient_run.specs.Lane.{Carries, Exchanged, Step, declined_outcome};
 
-use crate::client::Client;
-use crate::messages::request_of;
-use crate::outcome::Place;
-use crate::server::Server;
-use crate::thin_script::Line;
-use fr_bytes::{Bytes, NoMemory};
+use crate::server::answer;
+use client_core::{Asked, Client};
+use fr_bytes::{Bytes, NoMemory, Sequence};
 use fr_digest::Digester;
 use fr_edges::{CarryEnd, Wire};
+use hall_core::Hall;
+use op_types::laws;
+use signed_ops::Known;
 use std::alloc::Global;
+use thin_form::{CommandEnd, Decline, Line, Outcome, Place};
 
 // What the wire delivers for a request and the reply to it, or that it lost them.
 fn delivered_by<W: Wire>(
@@ -21,60 +23,90 @@ fn delivered_by<W: Wire>(
     request: &[u8],
     reply: &[u8],
 ) -> Result<Option<Bytes>, NoMemory>
-    ensures { IfOk result (λ delivered.
-        WireHalf (W.view wire.old) (W.view wire.new) (exchange request.now reply.now delivered (W.view wire.new).faults ∷ [])) }
+    ensures { IfOk result (Carries (W.view wire.old) (W.view wire.new) request.now reply.now) }
 {
     let mut out = Vec::new(alloc);
     match wire.carry(request, reply, &mut out) {
-        Ok(()) => Ok(Some(Bytes::of(out))),
+        Ok(()) => {
+            laws::slices_of_bytes(&out);
+            Ok(Some(Bytes::of(out)))
+        }
         Err(CarryEnd::Lost) => Ok(None),
         Err(CarryEnd::NoMemory) => Err(NoMemory),
     }
 }
 
-// Asks the server for a line, carries its reply, and lets the client hear what was delivered.
-fn run_command<D: Digester, W: Wire>(
+// The outcome of a command for which the client asked nothing.
+fn declined(alloc: Global, place: Place, line: &Line, decline: Decline) -> Outcome
+    ensures { result ≡ declined_outcome (record { place = place; user = line.now.user; command = line.now.command }) decline }
+{
+    Outcome {
+        place,
+        user: line.user,
+        verb: line.command.verb(),
+        end: CommandEnd::Declined(decline),
+        shown: Sequence::of(Vec::new(alloc)),
+    }
+}
+
+// Asks the wall, carries its reply, and lets the client hear what was delivered.
+fn exchange<D: Digester, W: Wire>(
     alloc: Global,
+    known: &Known,
     client: &mut Client,
-    server: &mut Server,
+    hall: &mut Hall<D>,
     wire: &mut W,
     place: Place,
     line: &Line,
-) -> Result<(), NoMemory>
-    requires { IsWhole (after_line server.old.list.items line.now) }
-    ensures { OnOk result (LaneRun D.digest_of
-        (lane_state client.old server.old (W.view wire.old))
-        (lane_state client.new server.new (W.view wire.new))
-        (record { place = place; line = line.now } ∷ [])) }
+    request: &[u8],
+) -> Result<Outcome, NoMemory>
+    requires spelled { request_of request.now ≢ None }
+    requires room { length hall.old.leaves < 1024 }
+    ensures wall { OnOk result (hall.new.known ≡ hall.old.known) }
+    ensures exchanged { IfOk result (λ outcome. IfSome (request_of request.now) (λ ask. request.now ≡ request_text ask → Exchanged D.digest_of known.now (client_view client.old) (client_view client.new) hall.old hall.new (W.view wire.old) (W.view wire.new) (record { place = place; user = line.now.user; command = line.now.command }) ask outcome)) }
 {
-    let request = request_of(alloc, line)?;
-    let reply = server.answer(alloc, line)?;
-    let delivered = delivered_by(alloc, wire, request.as_slice(), reply.as_slice())?;
-    client.hear::<D>(alloc, place, line, delivered.as_ref())
+    let reply = answer(alloc, hall, request)?;
+    let delivered = delivered_by(alloc, wire, request, reply.as_slice())?;
+    let heard = client.hear::<D>(alloc, known, request, delivered.as_ref())?;
+    Ok(Outcome {
+        place,
+        user: line.user,
+        verb: line.command.verb(),
+        end: heard.end,
+        shown: heard.shown,
+    })
 }
 
-/// Runs the lines as the commands of session 1 of phase 1, one after the other.
-pub fn run_lane<D: Digester, W: Wire>(
+/// Does one command: the client declines it, or its request is answered, carried and heard.
+pub fn run_command<D: Digester, W: Wire>(
     alloc: Global,
+    known: &Known,
     client: &mut Client,
-    server: &mut Server,
+    hall: &mut Hall<D>,
     wire: &mut W,
-    lines: &[Line],
-) -> Result<(), NoMemory>
-    requires limit { length lines.now < 2 ^ 32 }
-    requires room { IsRoomy server.old.list.items lines.now }
-    ensures { OnOk result (LaneRun D.digest_of
-        (lane_state client.old server.old (W.view wire.old))
-        (lane_state client.new server.new (W.view wire.new))
-        (placed lines.now)) }
+    place: Place,
+    line: &Line,
+) -> Result<Outcome, NoMemory>
+    requires command { IsThinCommand line.now.command }
+    requires ready { IsReady (client_view client.old) }
+    requires room { length hall.old.leaves < 1024 }
+    requires wall { hall.old.known ≡ known.now }
+    ensures step { IfOk result (Step D.digest_of known.now (client_view client.old) (client_view client.new) hall.old.leaves hall.new.leaves (W.view wire.old) (W.view wire.new) (record { place = place; user = line.now.user; command = line.now.command })) }
+    ensures wall { OnOk result (hall.new.known ≡ hall.old.known) }
 {
-    for (index, line) in lines.iter().enumerate() {
-        let place = Place {
-            phase: 1,
-            session: 1,
-            command: index as u32 + 1,
-        };
-        run_command::<D, W>(alloc, client, server, wire, place, line)?;
+    match client.ask(alloc, known, &line.command)? {
+        Asked::Declined(decline) => Ok(declined(alloc, place, line, decline)),
+        Asked::Sent(request) => {
+            exchange(
+                alloc,
+                known,
+                client,
+                hall,
+                wire,
+                place,
+                line,
+                request.as_slice(),
+            )
+        }
     }
-    Ok(())
 }

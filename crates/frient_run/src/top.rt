@@ -1,12 +1,11 @@
 ghost use Rattle.std.specs.Prelude.{◌≡◌, ◌≢◌, [], ◌∷◌, ◌++◌, codes, length, map, IfOk, OnOk, IsTrue, ◌↔◌};
-ghost use Rattle.frient_run.specs.Ends.{Ends, Happened, IsRun, Spoke, refusal_text, CameOf, text_of, wanted, records_of_fate};
+ghost use Rattle.frient_run.specs.Ends.{Ends, Happened, IsRun, Spoke, refusal_text, CameOf, text_of, wanted, records_of_fate, signed_of_fate};
 
 use crate::ended::Ended;
 use crate::fate::{Fate, Refusal};
 use crate::input::{InputEnd, read_input};
 use crate::output::say;
-use crate::record::ThinTooks;
-use crate::thin_script::read_script;
+use crate::record::{ThinSigned, ThinTooks};
 use crate::whole::run_over;
 use fr_bytes::{NoMemory, ReadRefusal};
 use fr_digest::{Digester, Sha};
@@ -14,6 +13,7 @@ use fr_edges::{Sink, Source, Wire};
 use std::alloc::Global;
 use std::sync::Wait;
 use std::thread::Threads;
+use thin_form::read_script;
 
 /// Reads a thin script from `source`, runs it over the first of `wires`, audits the run and writes its
 /// report to `sink`. The digest is SHA-256.
@@ -29,7 +29,7 @@ pub fn run_frient<R: Threads + Wait + Sync, S: Source, K: Sink, W: Wire + Send>(
     wires: &mut Vec<W>,
 ) -> Ended
     requires sixteen { length wires.old.items ≡ 16 }
-    ensures ends { Ends ⟦<Sha as Digester>⟧.digest_of (map (λ w. w.now) words.now) (S.view source.old) (S.view source.new) (K.view sink.old) (K.view sink.new) (map W.view wires.old.items) (map W.view wires.new.items) result.status result.records }
+    ensures ends { Ends ⟦<Sha as Digester>⟧.digest_of (map (λ w. w.now) words.now) (S.view source.old) (S.view source.new) (K.view sink.old) (K.view sink.new) (map W.view wires.old.items) (map W.view wires.new.items) result.status result.records result.signed }
     ensures places { result.status ≢ 6 → length wires.new.items ≡ 16 }
 {
     run_with::<Sha, R, S, K, W>(rt, alloc, words, source, sink, wires)
@@ -45,14 +45,15 @@ pub fn run_with<D: Digester, R: Threads + Wait + Sync, S: Source, K: Sink, W: Wi
     wires: &mut Vec<W>,
 ) -> Ended
     requires sixteen { length wires.old.items ≡ 16 }
-    ensures ends { Ends D.digest_of (map (λ w. w.now) words.now) (S.view source.old) (S.view source.new) (K.view sink.old) (K.view sink.new) (map W.view wires.old.items) (map W.view wires.new.items) result.status result.records }
+    ensures ends { Ends D.digest_of (map (λ w. w.now) words.now) (S.view source.old) (S.view source.new) (K.view sink.old) (K.view sink.new) (map W.view wires.old.items) (map W.view wires.new.items) result.status result.records result.signed }
     ensures places { result.status ≢ 6 → length wires.new.items ≡ 16 }
 {
     match fate::<D, S, W>(alloc, words, source, wires) {
         Ok(fate) => conclude(alloc, sink, fate),
         Err(NoMemory) => Ended {
             status: 6,
-            records: none(alloc),
+            records: no_records(alloc),
+            signed: none_signed(alloc),
         },
     }
 }
@@ -104,19 +105,23 @@ fn fate_of_script<D: Digester, W: Wire>(
 fn conclude<K: Sink>(alloc: Global, sink: &mut K, fate: Fate) -> Ended
     ensures spoke { Spoke (K.view sink.old) (K.view sink.new) (text_of fate) (wanted fate) result.status }
     ensures records { result.records ≡ records_of_fate fate }
+    ensures signed { result.signed ≡ signed_of_fate fate }
 {
     match fate {
         Fate::Whole(told) => Ended {
             status: say(sink, told.text.as_slice(), told.status),
             records: told.records,
+            signed: told.signed,
         },
         Fate::Refused(refusal) => Ended {
             status: say(sink, refusal_line(refusal), 2),
-            records: none(alloc),
+            records: no_records(alloc),
+            signed: none_signed(alloc),
         },
         Fate::Unread => Ended {
             status: 3,
-            records: none(alloc),
+            records: no_records(alloc),
+            signed: none_signed(alloc),
         },
     }
 }
@@ -131,8 +136,14 @@ fn refusal_line(refusal: Refusal) -> &'static [u8]
     }
 }
 
-fn none(alloc: Global) -> ThinTooks
+fn no_records(alloc: Global) -> ThinTooks
     ensures { result ≡ [] }
 {
     ThinTooks::of(Vec::new(alloc))
+}
+
+fn none_signed(alloc: Global) -> ThinSigned
+    ensures { result ≡ [] }
+{
+    ThinSigned::of(Vec::new(alloc))
 }

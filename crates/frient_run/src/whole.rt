@@ -1,24 +1,29 @@
-ghost use Rattle.std.specs.Prelude.{◌≡◌, ◌≤◌, [], length, IfOk};
+ghost use Rattle.std.specs.Prelude.{◌≡◌, ◌≤◌, ◌<◌, ◌^◌, ◌++◌, length, map, IfOk, OnOk};
 ghost use Rattle.std.specs.List.{AllByRecursion};
-ghost use Rattle.frient_run.specs.Client.{newcomer};
-ghost use Rattle.frient_run.specs.Ends.{Promise, Tells, RunsOver, audit_line, audit_of, is_failed, any_failed, status_of, wall_end};
-ghost use Rattle.frient_run.specs.Records.{Chained};
-ghost use Rattle.frient_run.specs.ThinScript.{IsThinLine};
+ghost use Rattle.client_core.specs.Asking.{client_view};
+ghost use Rattle.frient_run.specs.Audit.{audit_of, records_of};
+ghost use Rattle.frient_run.specs.Auditing.{IsChained, SignsOps};
+ghost use Rattle.frient_run.specs.Ends.{Promise, Tells, RunsOver, status_of, thin_records, thin_signed, thin_took, by_user, wall_end};
+ghost use Rattle.frient_run.specs.Fixture.{fixture, start};
+ghost use Rattle.frient_run.specs.Lane.{RunSoFar, placed, run_state};
+ghost use Rattle.frient_run.specs.Untampered.{any_failed, is_failed};
+ghost use Rattle.thin_form.specs.ThinScript.{IsThinLine};
 
 use crate::audit::audit;
-use crate::client::{Client, Side};
 use crate::fate::Told;
-use crate::lane::run_lane;
-use crate::outcome::{AuditLine, CommandEnd, Outcome, WallEnd};
-use crate::record::ThinTooks;
-use crate::report::report;
-use crate::server::Server;
-use crate::thin_script::Line;
-use fr_bytes::{Bytes, NoMemory, Texts};
-use fr_digest::{Clash, Digester};
+use crate::fixture::begin;
+use crate::record::{ThinSigned, ThinTook, ThinTooks};
+use crate::run::Run;
+use client_core::{Client, Took};
+use fr_bytes::NoMemory;
+use fr_digest::Digester;
 use fr_edges::Wire;
+use hall_core::Hall;
+use op_types::{Op, WrittenLeaves};
 use std::alloc::Global;
-use tree_model::root_at;
+use thin_form::report::report;
+use thin_form::{AuditLine, CommandEnd, Line, Outcome, WallEnd};
+use tree_model::root_of;
 
 /// Runs the lines over the first wire, audits the run and makes its report.
 pub fn run_over<D: Digester, W: Wire>(
@@ -44,72 +49,98 @@ fn run_whole<D: Digester, W: Wire>(
     requires each { AllByRecursion IsThinLine lines.now }
     ensures { IfOk result (Promise D.digest_of lines.now (W.view wire.old) (W.view wire.new)) }
 {
-    let mut client = new_client(alloc);
-    let mut server = Server {
-        list: Vec::new(alloc),
-    };
-    run_lane::<D, W>(alloc, &mut client, &mut server, wire, lines)?;
-    tell::<D>(alloc, client, server)
+    let run = ran::<D, W>(alloc, lines, wire)?;
+    tell::<D>(alloc, run)
 }
 
-// A client that has accepted nothing.
-fn new_client(alloc: Global) -> Client
-    ensures side { result.side ≡ newcomer }
-    ensures outcomes { result.outcomes.items ≡ [] }
-    ensures took { result.took.items ≡ [] }
+// The run of the lines, before it is audited.
+fn ran<D: Digester, W: Wire>(
+    alloc: Global,
+    lines: &[Line],
+    wire: &mut W,
+) -> Result<Run<D>, NoMemory>
+    requires limit { length lines.now ≤ 32 }
+    requires each { AllByRecursion IsThinLine lines.now }
+    ensures run { IfOk result (λ run. RunSoFar D.digest_of fixture start (W.view wire.old) (run_state run.clients.items run.outcomes.items run.hall.leaves (W.view wire.new)) (placed lines.now)) }
+    ensures signs { IfOk result (λ run. AllByRecursion SignsOps (map client_view run.clients.items)) }
+    ensures few { IfOk result (λ run. length (records_of (map client_view run.clients.items)) < 2 ^ 64) }
 {
-    Client {
-        side: Side {
-            have: 0,
-            root: [0; 32],
-        },
+    let begun = begin(alloc)?;
+    let known = begun.known;
+    let mut run = Run {
+        clients: begun.clients,
         outcomes: Vec::new(alloc),
-        took: Vec::new(alloc),
-    }
+        hall: Hall::make(alloc, known.copy(alloc)?)?,
+    };
+    run.run_lines(alloc, &known, wire, lines)?;
+    Ok(run)
 }
 
-// The audit and the report of what client and server came to.
-fn tell<D: Digester>(alloc: Global, client: Client, server: Server) -> Result<Told, NoMemory>
-    requires { Chained D.digest_of [] client.took.items }
-    ensures { IfOk result (Tells D.digest_of client.outcomes.items client.took.items server.list.items) }
+// The audit and the report of what the clients and the wall came to.
+fn tell<D: Digester>(alloc: Global, run: Run<D>) -> Result<Told, NoMemory>
+    requires chained { AllByRecursion (IsChained D.digest_of fixture) (map client_view run.clients.items) }
+    requires signs { AllByRecursion SignsOps (map client_view run.clients.items) }
+    requires few { length (records_of (map client_view run.clients.items)) < 2 ^ 64 }
+    ensures { IfOk result (Tells D.digest_of (map client_view run.clients.items) run.outcomes.items run.hall.leaves) }
 {
-    let clash = audit::<D>(alloc, &client.took)?;
-    let line = line_of::<D>(alloc, clash, client.took.len() as u64)?;
-    let status = status(&client.outcomes, &line);
-    let wall = wall_end_of::<D>(&Texts::of(server.list));
-    let text = report(alloc, &client.outcomes, &wall, &line, status)?;
+    let line = audit::<D>(alloc, &run.clients)?;
+    let status = status(&run.outcomes, &line);
+    let wall = wall_end_of::<D>(run.hall.leaves());
+    let text = report(alloc, &run.outcomes, &wall, &line, status)?;
+    let (records, signed) = handed_out(alloc, run.clients)?;
     Ok(Told {
         text,
         status,
-        records: ThinTooks::of(client.took),
+        records,
+        signed,
     })
 }
 
-fn line_of<D: Digester>(
-    alloc: Global,
-    clash: Option<Clash<D>>,
-    records: u64,
-) -> Result<AuditLine, NoMemory>
-    ensures { IfOk result (λ line. line ≡ audit_line records clash) }
+// The records and the signed operations, user after user.
+fn handed_out(alloc: Global, clients: Vec<Client>) -> Result<(ThinTooks, ThinSigned), NoMemory>
+    ensures records { IfOk result (λ all. all.0 ≡ thin_records (map client_view clients.items)) }
+    ensures signed { IfOk result (λ all. all.1 ≡ thin_signed (map client_view clients.items)) }
 {
-    match clash {
-        None => Ok(AuditLine::Sound {
-            records,
-            grounded: records,
-        }),
-        Some(clash) => Ok(AuditLine::Collision {
-            a: Bytes::of(clash.a().to_vec(alloc)?),
-            b: Bytes::of(clash.b().to_vec(alloc)?),
-        }),
+    let mut records = Vec::new(alloc);
+    let mut signed = Vec::new(alloc);
+    for client in clients {
+        add_records(&mut records, client.user, client.took)?;
+        add_signed(&mut signed, client.user, client.signed)?;
     }
+    Ok((ThinTooks::of(records), ThinSigned::of(signed)))
+}
+
+fn add_records(records: &mut Vec<ThinTook>, user: u32, took: Vec<Took>) -> Result<(), NoMemory>
+    ensures { OnOk result (records.new.items ≡ records.old.items ++ map (thin_took user) took.items) }
+{
+    for record in took {
+        records.push(ThinTook {
+            user,
+            have: record.have,
+            leaves: record.leaves.into_leaves(),
+        })?;
+    }
+    Ok(())
+}
+
+fn add_signed(signed: &mut Vec<(u32, Op)>, user: u32, ops: Vec<Op>) -> Result<(), NoMemory>
+    ensures { OnOk result (signed.new.items ≡ signed.old.items ++ map (by_user user) ops.items) }
+{
+    for op in ops {
+        signed.push((user, op))?;
+    }
+    Ok(())
 }
 
 fn has_failed(end: CommandEnd) -> bool
     ensures { result ≡ is_failed end }
 {
     match end {
-        CommandEnd::Accepted { .. } | CommandEnd::Same { .. } => false,
         CommandEnd::Rejected(_) | CommandEnd::Lost => true,
+        CommandEnd::Accepted { .. }
+        | CommandEnd::Same { .. }
+        | CommandEnd::Refused(_)
+        | CommandEnd::Declined(_) => false,
     }
 }
 
@@ -123,19 +154,20 @@ fn status(outcomes: &[Outcome], line: &AuditLine) -> u8
     ensures { result ≡ status_of outcomes.now line.now }
 {
     match line {
+        AuditLine::Forged { .. } => 5,
         AuditLine::Collision { .. } => 4,
         AuditLine::Sound { .. } => { if any_has_failed(outcomes) { 1 } else { 0 } }
     }
 }
 
-fn wall_end_of<D: Digester>(list: &Texts) -> WallEnd
-    ensures { result ≡ wall_end D.digest_of list.now }
+fn wall_end_of<D: Digester>(leaves: &WrittenLeaves) -> WallEnd
+    ensures { result ≡ wall_end D.digest_of leaves.now }
 {
-    let size = list.len() as u64;
+    let size = leaves.len() as u64;
     let root = if size == 0 {
         [0; 32]
     } else {
-        root_at::<D>(list, size)
+        root_of::<D>(leaves.texts())
     };
     WallEnd { size, root }
 }

@@ -1,17 +1,27 @@
-use Rattle.std.proofs.Common.{sym, ◌∙◌}
-use Rattle.std.specs.Option.{option_copied}
-use Rattle.frient_run.specs.Hearing.{lane_state}
-use Rattle.frient_run.specs.ThinMessages.{request}
-use Rattle.frient_run.proofs.LaneRuns.{one, on_ok, same_exchange}
+use Rattle.std.proofs.Common.{◌∙◌, subst}
+use Rattle.std.proofs.lemmas.Result.{IfOk-weaker}
+use Rattle.client_core.specs.Asking.{Asks, asked, client_view}
+use Rattle.frient_run.specs.Lane.{Placed}
+use Rattle.frient_run.proofs.Commands.{declined_step, sent_step, exchanged_for, not_none}
 use Rattle.frient_run.proofs.lane.run_command.Goals as goal
 
-pub returns : goal.returns
-returns g c = on_ok c.hear.result c.hear.ensures (λ h.
-    one g.D.Digester.digest_of (lane_state c.args.client.now c.args.server.now (g.W.Wire.view c.args.wire.now)) (lane_state c.hear.new.self c.answer.new.self (g.W.Wire.view c.delivered_by.new.wire)) (record { place = c.args.place; line = c.args.line.now }) (option_copied c.as_ref.result) c.in_ok-reply.reply (record {
-      side = h.side;
-      outcomes = h.outcomes;
-      took = h.took;
-      listed = c.in_ok-reply.ensures.listed;
-      replied = c.in_ok-reply.ensures.replies;
-      wire = same_exchange (g.W.Wire.view c.args.wire.now) (g.W.Wire.view c.delivered_by.new.wire) c.as_slice.result.now (request c.args.line.now) c.as_slice-2.result.now c.in_ok-reply.reply c.in_ok-delivered.delivered (option_copied c.as_ref.result) (c.as_slice.ensures ∙ c.in_ok-request.ensures) c.as_slice-2.ensures (sym c.as_ref.ensures.value) c.in_ok-delivered.ensures;
-    }))
+pub exchange-requires-clause-spelled : goal.exchange-requires-clause-spelled
+exchange-requires-clause-spelled g c =
+    let asks = subst (Asks c.args.known.now (client_view c.args.client.now) (client_view c.ask.new.self) c.args.line.now.command) c.in-Sent.is c.in_ok-decline.ensures in
+    not_none c.as_slice.result.now (asked c.args.known.now (client_view c.args.client.now) c.args.line.now.command) (c.as_slice.ensures ∙ asks.1) asks.2
+
+pub returns-in-Declined-clause-step : goal.returns-in-Declined-clause-step
+returns-in-Declined-clause-step g c =
+    let asks = subst (Asks c.args.known.now (client_view c.args.client.now) (client_view c.ask.new.self) c.args.line.now.command) c.in-Declined.is c.in_ok-decline.ensures in
+    declined_step g.D.Digester.digest_of c.args.known.now (client_view c.args.client.now) (client_view c.ask.new.self) c.args.hall.now.leaves (g.W.Wire.view c.args.wire.now) (record { place = c.args.place; user = c.args.line.now.user; command = c.args.line.now.command }) c.in-Declined.decline c.declined.result asks.0 asks.1 c.declined.ensures
+
+pub returns-in-Sent-clause-step : goal.returns-in-Sent-clause-step
+returns-in-Sent-clause-step g c =
+    let d = g.D.Digester.digest_of in
+    let known = c.args.known.now in
+    let before = client_view c.args.client.now in
+    let p : Placed = record { place = c.args.place; user = c.args.line.now.user; command = c.args.line.now.command } in
+    let asks = subst (Asks known before (client_view c.ask.new.self) c.args.line.now.command) c.in-Sent.is c.in_ok-decline.ensures in
+    IfOk-weaker c.exchange.result _ _ (λ outcome x.
+    sent_step d known before (client_view c.ask.new.self) (client_view c.exchange.new.client) c.args.hall.now c.exchange.new.hall (g.W.Wire.view c.args.wire.now) (g.W.Wire.view c.exchange.new.wire) p outcome asks.0 asks.3 c.requires.wall asks.2
+    (exchanged_for d known (client_view c.ask.new.self) (client_view c.exchange.new.client) c.args.hall.now c.exchange.new.hall (g.W.Wire.view c.args.wire.now) (g.W.Wire.view c.exchange.new.wire) p c.as_slice.result.now (asked known before c.args.line.now.command) outcome (c.as_slice.ensures ∙ asks.1) asks.2 x)) c.exchange.ensures.exchanged

@@ -1,23 +1,16 @@
+use Rattle.std.proofs.Common.{refl}
 use Rattle.std.proofs.lemmas.Result.{IfOk-weaker}
-use Rattle.frient_run.specs.Ends.{Promise, Tells}
-use Rattle.frient_run.specs.Hearing.{lane_state}
-use Rattle.frient_run.proofs.Promises.{IsOpening, roomy, whole_posts, chained_run, promised}
+use Rattle.frient_run.specs.Lane.{run_state}
+use Rattle.frient_run.proofs.Promises.{promised, run-chained}
 use Rattle.frient_run.proofs.whole.run_whole.Goals as goal
 
-pub run_lane-requires-clause-room : goal.run_lane-requires-clause-room
-run_lane-requires-clause-room g c = roomy _ c.args.lines.now c.new.ensures.items c.requires.limit c.requires.each
-
-pub tell-requires : goal.tell-requires
-tell-requires g c =
-    let before = lane_state c.new_client-client.result (record { list = c.new.result }) (g.W.Wire.view c.args.wire.now) in
-    let now = lane_state c.run_lane.new.client c.run_lane.new.server (g.W.Wire.view c.run_lane.new.wire) in
-    let opens : IsOpening before = record { side = c.new_client-client.ensures.side; outcomes = c.new_client-client.ensures.outcomes; took = c.new_client-client.ensures.took; list = c.new.ensures.items } in
-    chained_run g.D.Digester.digest_of before now c.args.lines.now opens c.in_ok-run_lane.ensures
+pub tell-requires-clause-chained : goal.tell-requires-clause-chained
+tell-requires-clause-chained g c =
+    let run = c.in_ok-run.run' in
+    run-chained g.D.Digester.digest_of (g.W.Wire.view c.args.wire.now) (run_state run.clients.items run.outcomes.items run.hall.leaves (g.W.Wire.view c.ran.new.wire)) c.args.lines.now c.in_ok-run.ensures.run
 
 pub returns : goal.returns
 returns g c =
-    let d = g.D.Digester.digest_of in
-    let before = lane_state c.new_client-client.result (record { list = c.new.result }) (g.W.Wire.view c.args.wire.now) in
-    let now = lane_state c.run_lane.new.client c.run_lane.new.server (g.W.Wire.view c.run_lane.new.wire) in
-    let opens : IsOpening before = record { side = c.new_client-client.ensures.side; outcomes = c.new_client-client.ensures.outcomes; took = c.new_client-client.ensures.took; list = c.new.ensures.items } in
-    IfOk-weaker c.tell.result (Tells d now.client.outcomes now.client.took now.list) (Promise d c.args.lines.now (g.W.Wire.view c.args.wire.now) (g.W.Wire.view c.run_lane.new.wire)) (λ told t. promised d before now c.args.lines.now told opens c.in_ok-run_lane.ensures (whole_posts c.args.lines.now c.requires.limit c.requires.each) t) c.tell.ensures
+    let run = c.in_ok-run.run' in
+    let now = run_state run.clients.items run.outcomes.items run.hall.leaves (g.W.Wire.view c.ran.new.wire) in
+    IfOk-weaker c.tell.result _ _ (λ told tells. promised g.D.Digester.digest_of g.met.D.Digester.has_length c.args.lines.now (g.W.Wire.view c.args.wire.now) (g.W.Wire.view c.ran.new.wire) now told refl c.in_ok-run.ensures.run tells) c.tell.ensures
