@@ -1,15 +1,13 @@
 -- Going over the leaves of a reply: the states that they lead to, and the rows of their positions.
-use Rattle.std.proofs.Common.{◌≡◌, ◌∙◌, ℕ, zero, suc, ◌+◌, ◌<◌, ◌≤◌, Bool, true, false, not, cond, ltb, eqb, List, [], ◌∷◌, ◌++◌, length, take, drop, map, get_or, Option, Some, None, refl, sym, ap, subst, append_assoc, arith}
-use Rattle.std.specs.Prelude.{fold, slice_get, ◌-◌}
-use Rattle.std.specs.List.{list_any, AllByRecursion}
+use Rattle.std.proofs.Common.{◌≡◌, ◌∙◌, ℕ, zero, suc, ◌+◌, ◌<◌, ◌≤◌, Bool, true, false, not, cond, ltb, eqb, List, [], ◌∷◌, ◌++◌, length, take, drop, get_or, Option, Some, None, refl, sym, ap, append_assoc, arith}
+use Rattle.std.specs.List.{AllByRecursion}
 use Rattle.std.specs.Option.{option_or}
-use Rattle.std.specs.Str.{bytes_eq}
-use Rattle.std.specs.Int.{w64, to_be_bytes}
 use Rattle.std.proofs.lemmas.Bool.{ltb-false}
-use Rattle.std.proofs.lemmas.List.{drop_more, length-take, drop_at, drop-drop, take-append-drop, append-nil, nil_from_length, length-drop, take_more, take_all}
+use Rattle.std.proofs.lemmas.List.{drop_more, drop-map, take-append-drop, append-nil, nil_from_length, length-drop, take_more, take_all}
 use Rattle.op_types.specs.declared.op.Leaf.{Leaf}
 use Rattle.op_types.specs.Kinds.{is_change_lem}
-use Rattle.op_types.specs.Spelling.{IsLeaf, leaf_text, op_text}
+use Rattle.op_types.specs.Spelling.{IsLeaf, leaf_text}
+use Rattle.op_types.proofs.LeafTexts.{op_behind}
 use Rattle.tree_model.specs.AccessList.{IsRising}
 use Rattle.tree_model.specs.History.{root_of_all}
 use Rattle.wall_law.specs.declared.state.State.{State}
@@ -103,17 +101,10 @@ arrives d known first k leaves state i h le =
 
 -- ---- what was sent
 
-op-part : (leaf : Leaf) → IsLeaf leaf → drop 40 (leaf_text leaf) ≡ op_text leaf.op
-unfolding leaf_text
-op-part leaf h = sym (drop-drop 8 32 (leaf.after ++ (to_be_bytes w64 leaf.epoch ++ op_text leaf.op))) ∙ ap (drop 8) (drop_at leaf.after (to_be_bytes w64 leaf.epoch ++ op_text leaf.op) 32 h.after.0)
-
-pub short_part : (text : List ℕ) → length text < 40 → [] ≡ drop 40 text
-short_part text short = sym (nil_from_length (drop 40 text) (omega (arith, length-drop 40 text)))
-
 pub in-texts : (sent : Option (List ℕ)) (leaves : List Leaf) → AllByRecursion IsLeaf leaves → is_in_texts sent (texts_of leaves) ≡ is_answered sent leaves
 in-texts None leaves each = refl
 in-texts (Some op) [] each = refl
-in-texts (Some op) (leaf ∷ leaves) each = rw (op-part leaf each.0, in-texts (Some op) leaves each.1) refl
+in-texts (Some op) (leaf ∷ leaves) each = rw (op_behind leaf each.0, in-texts (Some op) leaves each.1) refl
 
 -- ---- the rows that come early and late
 
@@ -138,11 +129,6 @@ early-none d known side leaves e =
     let second = or-none (row (ltb (length leaves) side.have) verdicts.Shorter) _ first.1 in
     let third = or-none (row (is_forked d side leaves) verdicts.Forked) _ second.1 in
     record { one_wall = row-none _ _ first.0; long = ltb-false _ _ (row-none _ _ second.0); unforked = row-none _ _ third.0 }
-
-drop-map : (n : ℕ) (leaves : List Leaf) → drop n (texts_of leaves) ≡ texts_of (drop n leaves)
-drop-map zero leaves = refl
-drop-map (suc n) [] = refl
-drop-map (suc n) (leaf ∷ leaves) = drop-map n leaves
 
 All-drop : (P : Leaf → Type 0) (n : ℕ) (leaves : List Leaf) → AllByRecursion P leaves → AllByRecursion P (drop n leaves)
 All-drop P zero leaves all = all
@@ -180,7 +166,7 @@ late-state d known side sent leaves first state accepted news answered c =
 -- what was sought in the texts of the new leaves
 pub sought-in : (side : Side) (sent : Option (List ℕ)) (leaves : List Leaf) (texts new_texts : List (List ℕ)) (answered : Bool) → AllByRecursion IsLeaf leaves → texts ≡ texts_of leaves → new_texts ≡ drop side.have texts → answered ≡ is_in_texts sent new_texts → answered ≡ is_answered sent (drop side.have leaves)
 sought-in side sent leaves texts new_texts answered each e e' e'' =
-    e'' ∙ ap (is_in_texts sent) (e' ∙ ap (drop side.have) e ∙ drop-map side.have leaves) ∙ in-texts sent (drop side.have leaves) (All-drop IsLeaf side.have leaves each)
+    e'' ∙ ap (is_in_texts sent) (e' ∙ ap (drop side.have) e ∙ drop-map leaf_text side.have leaves) ∙ in-texts sent (drop side.have leaves) (All-drop IsLeaf side.have leaves each)
 
 pub checked : (d : List ℕ → List ℕ) (known : Known) (side : Side) (sent : Option (List ℕ)) (leaves lent : List Leaf) (texts : List (List ℕ)) (first state : State) (accepted news : List Leaf) (new_texts : List (List ℕ)) (answered : Bool)
     → AllByRecursion IsLeaf leaves → lent ≡ leaves → texts ≡ texts_of leaves → accepted ≡ take side.have lent → news ≡ drop side.have lent → new_texts ≡ drop side.have texts → first ≡ state_of known.owner accepted

@@ -1,12 +1,9 @@
 -- A client that follows an honest wall: what it has accepted is the front of the wall's leaves.
 use Rattle.std.specs.Prelude.{◌≡◌, ℕ, ◌<◌, ◌≤◌, List, length, take, drop, Bool, true, false, ◌==◌, if◌then◌else◌}
-use Rattle.std.specs.List.{AllByRecursion}
 use Rattle.op_types.specs.declared.op.Leaf.{Leaf}
 use Rattle.tree_model.specs.History.{root, root_of_all}
 use Rattle.wall_law.specs.State.{state_of}
-use Rattle.wall_law.specs.Lawful.{Lawful}
 use Rattle.signed_ops.specs.declared.known.Known.{Known}
-use Rattle.signed_ops.specs.Signed.{is_author_signed}
 use Rattle.client_core.specs.declared.side.Side.{Side}
 use Rattle.client_core.specs.declared.judgement.Judgement.{Judgement}
 use Rattle.client_core.specs.declared.judgement.Judgement.TheVariants.{Lost, Rejected, Refused, Same, Takes}

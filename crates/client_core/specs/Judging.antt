@@ -1,10 +1,9 @@
 -- What a client makes of what was delivered to it: the first of named rows that applies, in this order.
 -- It is a function of what everybody knows, of what the client accepted and asked, and of the bytes.
-use Rattle.std.specs.Prelude.{◌≡◌, ℕ, ◌+◌, List, [], ◌∷◌, length, take, drop, map, fold, Option, Some, None, Bool, true, not, ◌&&◌, nat_lt, nat_eq, ◌==◌, if◌then◌else◌}
+use Rattle.std.specs.Prelude.{ℕ, ◌+◌, List, [], ◌∷◌, length, take, drop, map, Option, Some, None, Bool, true, not, ◌&&◌, nat_lt, nat_eq, ◌==◌, if◌then◌else◌}
 use Rattle.std.specs.List.{list_any}
 use Rattle.std.specs.Option.{option_or, option_map}
 use Rattle.std.specs.Str.{bytes_eq}
-use Rattle.op_types.specs.declared.op.Op.{Op}
 use Rattle.op_types.specs.declared.op.Leaf.{Leaf}
 use Rattle.op_types.specs.Spelling.{op_text, leaf_text}
 use Rattle.tree_model.specs.AccessList.{dict}

@@ -1,5 +1,5 @@
 -- Going over leaves: the states that they lead to, and what a check of their positions answers.
-use Rattle.std.specs.Prelude.{◌≡◌, ℕ, ◌≤◌, List, fold, Option, Some, None, Result, Ok, Err, Bool, true, drop}
+use Rattle.std.specs.Prelude.{◌≡◌, ℕ, List, fold, Option, Some, None, Result, Ok, Err, Bool, true, drop}
 use Rattle.std.specs.List.{list_any}
 use Rattle.std.specs.Str.{bytes_eq}
 use Rattle.op_types.specs.declared.op.Leaf.{Leaf}

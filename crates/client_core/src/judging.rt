@@ -14,15 +14,12 @@ use crate::judgement::Judgement;
 use crate::side::Side;
 use fr_bytes::{Bytes, NoMemory, ReadRefusal};
 use fr_digest::{Dig, Digester};
-use op_types::{Leaf, WrittenLeaves};
+use op_types::{Leaf, WrittenLeaves, op_part};
 use signed_ops::{Known, is_author_signed};
 use std::alloc::Global;
 use thin_form::{Cause, Reply, Verdict, read_reply};
 use tree_model::{dict_digest, root_of};
 use wall_law::{State, genesis, judge_op, state_after};
-
-/// Where a leaf's text has its operation: behind the digest of 32 bytes and the epoch of 8.
-const OP_PLACE: usize = 40;
 
 /// What a client with this side makes of what was delivered for its request, or that nothing was: the
 /// first that applies of
@@ -226,17 +223,6 @@ fn holds_op(texts: &[Bytes], op: &[u8]) -> bool
     ensures { result ≡ list_any (λ text. bytes_eq (drop 40 text) op.now) texts.now }
 {
     texts.iter().any(|text| op_part(text.as_slice()) == op)
-}
-
-// The bytes of the operation in a leaf's text: those behind a digest and an epoch.
-fn op_part(text: &[u8]) -> &[u8]
-    ensures { result.now ≡ drop 40 text.now }
-{
-    if text.len() < OP_PLACE {
-        return &[];
-    }
-    let (_, op) = text.split_at(OP_PLACE);
-    op
 }
 
 // The state after the leaves.

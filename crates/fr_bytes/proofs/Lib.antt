@@ -1,2 +1,4 @@
 pub mod Formats
+pub mod Limits
 pub mod Lists
+pub mod Parts

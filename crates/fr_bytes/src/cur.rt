@@ -1,14 +1,15 @@
-ghost use Rattle.std.specs.Prelude.{◌≡◌, ◌++◌, ◌∷◌, [], ◌<◌, length, IfOk, OnOk, OnErr, IsErr, ◌↔◌};
+ghost use Rattle.std.specs.Prelude.{◌≡◌, ◌≢◌, ◌++◌, ◌∷◌, [], ◌<◌, length, Err, IfOk, OnOk, OnErr, IsErr, ◌↔◌};
 ghost use Rattle.std.specs.Int.{w16, w32, w64, to_be_bytes};
-ghost use Rattle.fr_bytes.specs.Reading.{Moves, byte_at, piece_at, number_at};
+ghost use Rattle.fr_bytes.specs.Reading.{Gives, Moves, byte_at, piece_at, number_at, counted_at};
+ghost use Rattle.fr_bytes.specs.Parts.{byte_within, number_within};
 
-use super::refusals::TooFew;
+use super::refusals::{ReadRefusal, TooFew};
 use std::marker::Model;
 
 /// A place in a list of bytes, from which numbers and pieces are read one after the other.
 ///
-/// Contracts see it as the list of the bytes that are left. A read that finds too few bytes leaves it
-/// where it was. No call takes memory.
+/// Contracts see it as the list of the bytes that are left. A read that finds too few bytes, or a value
+/// outside its range, leaves it where it was. No call takes memory.
 #[derive(Debug, Drop)]
 pub struct Cur<'a> {
     rest: &'a [u8],
@@ -96,5 +97,71 @@ impl<'a> Cur<'a> {
         Ok(u64::from_be_bytes([
             taken[0], taken[1], taken[2], taken[3], taken[4], taken[5], taken[6], taken[7],
         ]))
+    }
+
+    /// The bytes behind their number, which is the next four bytes. `TooFew` comes exactly where fewer
+    /// bytes are left.
+    #[tactic(auto, unfolding(crate::specs::Reading::counted_at))]
+    pub fn counted(&mut self) -> Result<&'a [u8], TooFew>
+        ensures stays { OnErr result (self.new ≡ self.old) }
+        ensures reads { Moves (λ x. x.now) result self.old self.new (counted_at self.old) }
+    {
+        let before = self.rest;
+        let n = self.u32()?;
+        let taken = self.take(n as usize);
+        if taken.is_err() {
+            self.rest = before;
+        }
+        taken
+    }
+
+    /// The next byte, from `low` to `high`. `NotForm` comes exactly where it is another or none is left.
+    #[tactic(auto, unfolding(crate::specs::Parts::byte_within))]
+    pub fn u8_within(&mut self, low: u8, high: u8) -> Result<u8, ReadRefusal>
+        ensures stays { OnErr result (self.new ≡ self.old) }
+        ensures no_memory { result ≢ Err ReadRefusal.NoMemory }
+        ensures reads { Gives (λ x. x) result self.new (byte_within low high self.old) }
+    {
+        let before = self.rest;
+        let x = self.u8()?;
+        if x < low || high < x {
+            self.rest = before;
+            return Err(ReadRefusal::NotForm);
+        }
+        Ok(x)
+    }
+
+    /// The big-endian number of the next four bytes, from `low` to `high`. `NotForm` comes exactly where
+    /// it is another or fewer bytes are left.
+    #[tactic(auto, unfolding(crate::specs::Parts::number_within))]
+    pub fn u32_within(&mut self, low: u32, high: u32) -> Result<u32, ReadRefusal>
+        ensures stays { OnErr result (self.new ≡ self.old) }
+        ensures no_memory { result ≢ Err ReadRefusal.NoMemory }
+        ensures reads { Gives (λ x. x) result self.new (number_within w32 low high self.old) }
+    {
+        let before = self.rest;
+        let x = self.u32()?;
+        if x < low || high < x {
+            self.rest = before;
+            return Err(ReadRefusal::NotForm);
+        }
+        Ok(x)
+    }
+
+    /// The big-endian number of the next eight bytes, from `low` to `high`. `NotForm` comes exactly where
+    /// it is another or fewer bytes are left.
+    #[tactic(auto, unfolding(crate::specs::Parts::number_within))]
+    pub fn u64_within(&mut self, low: u64, high: u64) -> Result<u64, ReadRefusal>
+        ensures stays { OnErr result (self.new ≡ self.old) }
+        ensures no_memory { result ≢ Err ReadRefusal.NoMemory }
+        ensures reads { Gives (λ x. x) result self.new (number_within w64 low high self.old) }
+    {
+        let before = self.rest;
+        let x = self.u64()?;
+        if x < low || high < x {
+            self.rest = before;
+            return Err(ReadRefusal::NotForm);
+        }
+        Ok(x)
     }
 }

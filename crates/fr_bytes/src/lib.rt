@@ -9,7 +9,7 @@ mod refusals;
 mod sequence;
 
 pub use cur::Cur;
-pub use put::{put_bytes, put_u8, put_u16, put_u32, put_u64};
+pub use put::{put_bytes, put_counted, put_u8, put_u16, put_u32, put_u64};
 pub use refusals::{NoMemory, ReadRefusal, TooFew};
 pub use sequence::{Bytes, Sequence, Texts};
 

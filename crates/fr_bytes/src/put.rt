@@ -1,5 +1,6 @@
-ghost use Rattle.std.specs.Prelude.{◌≡◌, ◌++◌, ◌∷◌, [], OnOk, OnErr};
+ghost use Rattle.std.specs.Prelude.{◌≡◌, ◌<◌, ◌^◌, ◌++◌, ◌∷◌, [], length, OnOk, OnErr};
 ghost use Rattle.std.specs.Int.{w16, w32, w64, to_be_bytes};
+ghost use Rattle.fr_bytes.specs.Bytes.{counted};
 
 use super::refusals::NoMemory;
 
@@ -42,4 +43,19 @@ pub fn put_u64(out: &mut Vec<u8>, v: u64) -> Result<(), NoMemory>
     ensures refused { OnErr result (out.new.items ≡ out.old.items) }
 {
     put_bytes(out, &v.to_be_bytes())
+}
+
+/// Appends `v` behind its length, which has four bytes. On want of memory `out` holds what it held.
+pub fn put_counted(out: &mut Vec<u8>, v: &[u8]) -> Result<(), NoMemory>
+    requires { length v.now < 2 ^ 32 }
+    ensures appended { OnOk result (out.new.items ≡ out.old.items ++ counted v.now) }
+    ensures refused { OnErr result (out.new.items ≡ out.old.items) }
+{
+    let before = out.len();
+    put_u32(out, v.len() as u32)?;
+    let put = put_bytes(out, v);
+    if put.is_err() {
+        out.truncate(before);
+    }
+    put
 }

@@ -1,7 +1,7 @@
 ghost use Rattle.std.specs.Prelude.{◌≡◌, ◌<◌, ◌^◌, ◌&&◌, [], length, map, drop, IfOk, not, nat_eq};
 ghost use Rattle.std.specs.List.{AllByRecursion, flat_map, list_any};
 ghost use Rattle.std.specs.Str.{bytes_eq};
-ghost use Rattle.op_types.specs.Spelling.{IsLeaf, IsOp, op_text};
+ghost use Rattle.op_types.specs.Spelling.{IsLeaf, IsOp, leaf_text, op_text};
 ghost use Rattle.signed_ops.specs.declared.known.Known.{Known};
 ghost use Rattle.client_core.specs.Asking.{client_view};
 ghost use Rattle.frient_run.specs.Audit.{audit_of, compared_line, differs, first_difference, records_of, shown_ops};
@@ -11,7 +11,7 @@ ghost use Rattle.client_core.specs.Records.{Chained};
 use client_core::{Client, Took};
 use fr_bytes::{Bytes, NoMemory, Texts};
 use fr_digest::{Clash, Digester};
-use op_types::{Leaf, Op, write_op};
+use op_types::{Leaf, Op, op_part, write_op};
 use std::alloc::Global;
 use thin_form::AuditLine;
 use tree_extract::slice_clash;
@@ -120,7 +120,8 @@ fn forgery_shown(
     ensures { IfOk result (λ line. line ≡ first_line signed.now (flat_map shown_ops records.now)) }
 {
     for took in records {
-        let line = forgery_among(alloc, signed, news(took))?;
+        let (leaves, texts) = news(took);
+        let line = forgery_among(alloc, signed, leaves, texts)?;
         if line.is_some() {
             return Ok(line);
         }
@@ -128,36 +129,42 @@ fn forgery_shown(
     Ok(None)
 }
 
+// The line of the first forged operation of these leaves, whose texts these are.
 fn forgery_among(
     alloc: Global,
     signed: &[SignedTexts],
     leaves: &[Leaf],
+    texts: &[Bytes],
 ) -> Result<Option<AuditLine>, NoMemory>
-    requires { AllByRecursion IsLeaf leaves.now }
+    requires texts { texts.now ≡ map leaf_text leaves.now }
+    requires spelled { AllByRecursion IsLeaf leaves.now }
     ensures { IfOk result (λ line. line ≡ first_line signed.now (ops_of leaves.now)) }
 {
-    for leaf in leaves {
-        let op = write_op(alloc, &leaf.op)?;
-        if is_forged(signed, leaf.op.author, op.as_slice()) {
+    for (i, leaf) in leaves.iter().enumerate() {
+        let op = op_part(texts[i].as_slice());
+        if is_forged(signed, leaf.op.author, op) {
             return Ok(Some(AuditLine::Forged {
                 user: leaf.op.author,
-                op,
+                op: Bytes::of(op.to_vec(alloc)?),
             }));
         }
     }
     Ok(None)
 }
 
-// The leaves that a record shows: those that were new.
-fn news(took: &Took) -> &[Leaf]
-    ensures news { result.now ≡ drop took.now.have took.now.leaves }
-    ensures spelled { AllByRecursion IsLeaf result.now }
+// The leaves that a record shows, those that were new, and their texts.
+fn news(took: &Took) -> (&[Leaf], &[Bytes])
+    ensures news { result.0.now ≡ drop took.now.have took.now.leaves }
+    ensures texts { result.1.now ≡ map leaf_text result.0.now }
+    ensures spelled { AllByRecursion IsLeaf result.0.now }
 {
     let leaves = took.leaves.leaves();
+    let texts = took.leaves.texts();
     if (leaves.len() as u64) < took.have {
-        return &[];
+        return (&[], &[]);
     }
-    &leaves[took.have as usize..]
+    let have = took.have as usize;
+    (&leaves[have..], &texts[have..])
 }
 
 // ---- differences

@@ -1,7 +1,6 @@
 -- The plain wall: a list of leaves, to which an operation is added where it is signed by its author and
 -- the law lets it stand. d is the digest of strings.
-use Rattle.std.specs.Prelude.{◌≡◌, ℕ, ◌<◌, true, List, [], ◌∷◌, ◌++◌, length, Option, Some, None, if◌then◌else◌}
-use Rattle.std.specs.List.{AllByRecursion}
+use Rattle.std.specs.Prelude.{◌≡◌, ℕ, ◌<◌, List, [], ◌∷◌, ◌++◌, length, Option, Some, None, if◌then◌else◌}
 use Rattle.std.specs.Option.{option_map}
 use Rattle.op_types.specs.declared.op.Op.{Op}
 use Rattle.op_types.specs.declared.op.Leaf.{Leaf}
@@ -10,7 +9,6 @@ use Rattle.tree_model.specs.AccessList.{IsRising, dict}
 use Rattle.wall_law.specs.declared.state.State.{State}
 use Rattle.wall_law.specs.State.{after, state_of}
 use Rattle.wall_law.specs.Law.{law}
-use Rattle.wall_law.specs.Lawful.{Lawful}
 use Rattle.signed_ops.specs.declared.known.Known.{Known}
 use Rattle.signed_ops.specs.Signed.{is_author_signed}
 use Rattle.hall_core.specs.declared.ask.Ask.{Ask}

@@ -1,3 +1,3 @@
+pub mod LeafTexts
 pub mod Ops
-pub mod Parts
 pub mod Readers

@@ -1,11 +1,12 @@
 -- Reading and spelling of operations and leaves agree, part by part.
-use Rattle.std.proofs.Common.{◌≡◌, ℕ, zero, suc, ◌^◌, ◌<◌, ◌≤◌, Bool, List, [], ◌∷◌, ◌++◌, length, Option, Some, None, refl, sym, ap, subst, map, ◌∙◌, append_assoc, arith}
-use Rattle.std.specs.List.{flat_map, AllByRecursion}
+use Rattle.std.proofs.Common.{◌≡◌, ℕ, zero, suc, ◌^◌, ◌<◌, List, [], ◌∷◌, ◌++◌, Some, refl, sym, ap, subst, map, ◌∙◌, append_assoc, arith}
+use Rattle.std.specs.List.{AllByRecursion}
 use Rattle.std.specs.Int.{w32, w64, to_be_bytes}
-use Rattle.std.proofs.lemmas.Bool.{ltb-false, le-ltb}
 use Rattle.fr_bytes.specs.Bytes.{IsBytes, counted}
-use Rattle.fr_bytes.specs.Reading.{◌>>=◌, byte_at, piece_at, number_at, counted_at, both_at, as_at, all_of, IsExact}
-use Rattle.fr_bytes.proofs.Formats.{IsBelow, IsCounted, HasLength, single, same, wide32, wide64, exact_byte, exact_number, exact_piece, exact_counted, exact_both, exact_as, fit_both, spelled_both, some_is, all_found, all_again}
+use Rattle.fr_bytes.specs.Reading.{◌>>=◌, piece_at, number_at, both_at, as_at, all_of, IsExact}
+use Rattle.fr_bytes.specs.Parts.{IsWithin, IsLimited, byte_within, number_within, limited_at, fit_optional, spelled_optional}
+use Rattle.fr_bytes.proofs.Parts.{exact_field, exact_never, exact_spelled, exact_byte_within, exact_number_within, exact_limited, exact_tagged, exact_optional, exact_listed}
+use Rattle.fr_bytes.proofs.Formats.{IsBelow, single, same, wide32, wide64, exact_number, exact_piece, exact_both, exact_as, some_is, all_found, all_again}
 use Rattle.op_types.specs.declared.kind.Wrap.{Wrap}
 use Rattle.op_types.specs.declared.kind.Kind.{Kind}
 use Rattle.op_types.specs.declared.kind.Kind.TheVariants.{Post, Admit, Remove}
@@ -14,10 +15,8 @@ use Rattle.op_types.specs.declared.op.Op.{Op}
 use Rattle.op_types.specs.declared.op.Leaf.{Leaf}
 use Rattle.op_types.specs.declared.roles.TheConstants.{READER, WRITER}
 use Rattle.op_types.specs.declared.limits.TheConstants.{SEQ_MAX, VIEW_SIZE_MAX, BODY_BYTES_MAX, SIGNATURE_BYTES_MAX, SLOT_MAX, WRAPS_MAX, CHILD_MIN, CHILD_MAX}
-use Rattle.op_types.specs.Parts.{guarded_at, IsWithin, is_outside, is_longer, optional_at, fit_optional, spelled_optional, listed_at}
-use Rattle.op_types.specs.Spelling.{IsDig, IsLimited, IsWrap, wrap_text, AreWraps, wraps_text, IsKind, kind_tag, kind_rest, kind_text, no_root, is_signed, IsSigned, signed_text, IsView, view_text, IsOp, unsigned_text, op_text, IsLeaf, leaf_text, SpellsOp, SpellsLeaf}
-use Rattle.op_types.specs.Reading.{byte_within, number_within, long_within, limited_at, wrap_at, wraps_at, post_at, admitted, admit_at, removed, remove_at, kind_of, kind_at, signature_at, signed_at, view_at, op_at, leaf_at}
-use Rattle.op_types.proofs.Parts.{exact_field, exact_never, exact_told, exact_spelled, exact_guarded, exact_within, exact_optional, exact_listed}
+use Rattle.op_types.specs.Spelling.{IsDig, IsWrap, wrap_text, AreWraps, wraps_text, IsKind, kind_tag, kind_rest, kind_text, no_root, is_signed, IsSigned, signed_text, IsView, view_text, IsOp, unsigned_text, op_text, IsLeaf, leaf_text, SpellsOp, SpellsLeaf}
+use Rattle.op_types.specs.Reading.{wrap_at, wraps_at, post_at, admitted, admit_at, removed, remove_at, kind_of, kind_at, signature_at, signed_at, view_at, op_at, leaf_at}
 
 -- ---- numbers and byte lists
 
@@ -26,23 +25,6 @@ exact_u32 = exact_number w32 (2 ^ 32) wide32
 
 exact_u64 : IsExact (IsBelow (2 ^ 64)) (to_be_bytes w64) (number_at w64)
 exact_u64 = exact_number w64 (2 ^ 64) wide64
-
-exact_byte_within : (low high : ℕ) → high < 256 → IsExact (IsWithin low high) single (byte_within low high)
-unfolding byte_within
-exact_byte_within low high lt = exact_within (IsBelow 256) single byte_at low high exact_byte (λ n le. omega arith)
-
-exact_number_within : (low high : ℕ) → high < 2 ^ 32 → IsExact (IsWithin low high) (to_be_bytes w32) (number_within low high)
-unfolding number_within
-exact_number_within low high lt = exact_within (IsBelow (2 ^ 32)) (to_be_bytes w32) (number_at w32) low high exact_u32 (λ n le. omega arith)
-
-exact_long_within : (low high : ℕ) → high < 2 ^ 64 → IsExact (IsWithin low high) (to_be_bytes w64) (long_within low high)
-unfolding long_within
-exact_long_within low high lt = exact_within (IsBelow (2 ^ 64)) (to_be_bytes w64) (number_at w64) low high exact_u64 (λ n le. omega arith)
-
-exact_limited : (limit : ℕ) → limit < 2 ^ 32 → IsExact (IsLimited limit) counted (limited_at limit)
-unfolding limited_at
-exact_limited limit lt = exact_guarded IsCounted (IsLimited limit) counted (is_longer limit) counted_at exact_counted
-    (λ x h e. (ltb-false limit (length x) e, h.1)) (λ x h. ((omega arith, h.1), le-ltb limit (length x) h.0))
 
 exact_signature : IsExact (IsLimited SIGNATURE_BYTES_MAX) counted signature_at
 unfolding signature_at
@@ -53,7 +35,7 @@ exact_signature = exact_limited SIGNATURE_BYTES_MAX (omega arith)
 exact_wrap : IsExact IsWrap wrap_text wrap_at
 unfolding wrap_at
 exact_wrap =
-    exact_field (IsWithin CHILD_MIN CHILD_MAX) (to_be_bytes w32) (number_within CHILD_MIN CHILD_MAX) IsWrap (λ w. w.child) (λ w. to_be_bytes w32 w.child_gen ++ w.body) _ (exact_number_within CHILD_MIN CHILD_MAX (omega arith)) (λ w h. h.child)
+    exact_field (IsWithin CHILD_MIN CHILD_MAX) (to_be_bytes w32) (number_within w32 CHILD_MIN CHILD_MAX) IsWrap (λ w. w.child) (λ w. to_be_bytes w32 w.child_gen ++ w.body) _ (exact_number_within w32 (2 ^ 32) wide32 CHILD_MIN CHILD_MAX (omega arith)) (λ w h. h.child)
     (λ child h. exact_field (IsBelow (2 ^ 32)) (to_be_bytes w32) (number_at w32) (λ w. IsWrap w × (w.child ≡ child)) (λ w. w.child_gen) (λ w. w.body) _ exact_u32 (λ w h'. h'.0.child_gen)
     (λ child_gen h'. exact_as IsDig same (piece_at 32) (λ w. (IsWrap w × (w.child ≡ child)) × (w.child_gen ≡ child_gen)) (λ body. record { child = child; child_gen = child_gen; body = body }) (λ w. w.body) (exact_piece 32)
     (λ body h''. (((record { child = h; child_gen = h'; body = h'' }, refl), refl), refl))
@@ -181,7 +163,7 @@ tag_below (Remove user slot wraps) = omega arith
 
 pub exact_kind : IsExact IsKind kind_text kind_at
 unfolding kind_at
-exact_kind = exact_field (IsBelow 256) single byte_at IsKind kind_tag kind_rest kind_of exact_byte (λ kind h. tag_below kind) (λ tag h. exact_kind_of tag)
+exact_kind = exact_tagged IsKind kind_tag kind_rest kind_of tag_below exact_kind_of
 
 -- ---- views
 
@@ -203,8 +185,8 @@ exact_sized wall size within = exact_spelled (λ v. IsView wall v × (v.size ≡
 
 exact_view : (wall : ℕ) → IsExact (IsView wall) view_text (view_at wall)
 unfolding view_at
-exact_view wall = exact_field (IsWithin 0 VIEW_SIZE_MAX) (to_be_bytes w64) (long_within 0 VIEW_SIZE_MAX) (IsView wall) (λ v. v.size) view_rest (λ size bytes. signed_at size bytes >>= λ signed. Some (record { wall = wall; size = size; root = signed.0.0; sig = signed.0.1 }, signed.1))
-    (exact_long_within 0 VIEW_SIZE_MAX (omega arith)) (λ v h. h.size) (λ size h. exact_sized wall size h)
+exact_view wall = exact_field (IsWithin 0 VIEW_SIZE_MAX) (to_be_bytes w64) (number_within w64 0 VIEW_SIZE_MAX) (IsView wall) (λ v. v.size) view_rest (λ size bytes. signed_at size bytes >>= λ signed. Some (record { wall = wall; size = size; root = signed.0.0; sig = signed.0.1 }, signed.1))
+    (exact_number_within w64 (2 ^ 64) wide64 0 VIEW_SIZE_MAX (omega arith)) (λ v h. h.size) (λ size h. exact_sized wall size h)
 
 -- ---- operations
 
@@ -249,7 +231,7 @@ unfolding op_at
 exact_op = exact_spelled IsOp parts_text op_text op_at
     (exact_field (IsBelow (2 ^ 32)) (to_be_bytes w32) (number_at w32) IsOp (λ op. op.wall) (λ op. to_be_bytes w32 op.author ++ (to_be_bytes w32 op.seq ++ (to_be_bytes w64 op.epoch ++ (view_text op.view ++ (kind_text op.kind ++ counted op.sig))))) _ exact_u32 (λ op h. h.wall) (λ wall h1.
     exact_field (IsBelow (2 ^ 32)) (to_be_bytes w32) (number_at w32) (With1 wall) (λ op. op.author) (λ op. to_be_bytes w32 op.seq ++ (to_be_bytes w64 op.epoch ++ (view_text op.view ++ (kind_text op.kind ++ counted op.sig)))) _ exact_u32 (λ op h. h.0.author) (λ author h2.
-    exact_field (IsWithin 0 SEQ_MAX) (to_be_bytes w32) (number_within 0 SEQ_MAX) (With2 wall author) (λ op. op.seq) (λ op. to_be_bytes w64 op.epoch ++ (view_text op.view ++ (kind_text op.kind ++ counted op.sig))) _ (exact_number_within 0 SEQ_MAX (omega arith)) (λ op h. h.0.0.seq) (λ seq h3.
+    exact_field (IsWithin 0 SEQ_MAX) (to_be_bytes w32) (number_within w32 0 SEQ_MAX) (With2 wall author) (λ op. op.seq) (λ op. to_be_bytes w64 op.epoch ++ (view_text op.view ++ (kind_text op.kind ++ counted op.sig))) _ (exact_number_within w32 (2 ^ 32) wide32 0 SEQ_MAX (omega arith)) (λ op h. h.0.0.seq) (λ seq h3.
     exact_field (IsBelow (2 ^ 64)) (to_be_bytes w64) (number_at w64) (With3 wall author seq) (λ op. op.epoch) (λ op. view_text op.view ++ (kind_text op.kind ++ counted op.sig)) _ exact_u64 (λ op h. h.0.0.0.epoch) (λ epoch h4.
     exact_field (IsView wall) view_text (view_at wall) (With4 wall author seq epoch) (λ op. op.view) (λ op. kind_text op.kind ++ counted op.sig) _ (exact_view wall) (λ op h. subst (λ w. IsView w op.view) h.0.0.0.1 h.0.0.0.0.view) (λ view h5.
     exact_field IsKind kind_text kind_at (With5 wall author seq epoch view) (λ op. op.kind) (λ op. counted op.sig) _ exact_kind (λ op h. h.0.0.0.0.0.kind) (λ kind h6.

@@ -1,5 +1,5 @@
 -- What a reader of all of the bytes answers, told of what is spelled.
-use Rattle.std.proofs.Common.{◌≡◌, ℕ, List, Option, Some, None, Result, Ok, Err, sym, ◌∙◌}
+use Rattle.std.proofs.Common.{ℕ, List, Result, Ok, Err, sym, ◌∙◌}
 use Rattle.std.specs.Prelude.{IfOk, IsErrOf}
 use Rattle.fr_bytes.specs.declared.refusals.ReadRefusal.{ReadRefusal}
 use Rattle.fr_bytes.specs.declared.refusals.ReadRefusal.TheVariants as refusals

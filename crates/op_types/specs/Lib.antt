@@ -1,4 +1,3 @@
-pub mod Parts
 pub mod Roles
 pub mod Kinds
 pub mod Spelling

@@ -1,7 +1,8 @@
 -- Reading operations and leaves from the front of a byte list.
 use Rattle.std.specs.Prelude.{ℕ, zero, suc, List, [], Option, Some, None}
 use Rattle.std.specs.Int.{w32, w64}
-use Rattle.fr_bytes.specs.Reading.{◌>>=◌, byte_at, piece_at, number_at, counted_at, both_at, as_at}
+use Rattle.fr_bytes.specs.Reading.{◌>>=◌, piece_at, number_at, both_at, as_at}
+use Rattle.fr_bytes.specs.Parts.{byte_within, number_within, limited_at, tagged_at, optional_at, listed_at}
 use Rattle.op_types.specs.declared.kind.Wrap.{Wrap}
 use Rattle.op_types.specs.declared.kind.Kind.{Kind}
 use Rattle.op_types.specs.declared.kind.Kind.TheVariants.{Post, Admit, Remove}
@@ -10,25 +11,11 @@ use Rattle.op_types.specs.declared.op.Op.{Op}
 use Rattle.op_types.specs.declared.op.Leaf.{Leaf}
 use Rattle.op_types.specs.declared.roles.TheConstants.{READER, WRITER}
 use Rattle.op_types.specs.declared.limits.TheConstants.{SEQ_MAX, VIEW_SIZE_MAX, BODY_BYTES_MAX, SIGNATURE_BYTES_MAX, SLOT_MAX, WRAPS_MAX, CHILD_MIN, CHILD_MAX}
-use Rattle.op_types.specs.Parts.{guarded_at, is_outside, is_longer, optional_at, listed_at}
 use Rattle.op_types.specs.Spelling.{no_root, is_signed}
-
--- numbers and byte lists in a range
-unfoldable pub byte_within : ℕ → ℕ → List ℕ → Option (ℕ × List ℕ)
-byte_within low high = guarded_at (is_outside low high) byte_at
-
-unfoldable pub number_within : ℕ → ℕ → List ℕ → Option (ℕ × List ℕ)
-number_within low high = guarded_at (is_outside low high) (number_at w32)
-
-unfoldable pub long_within : ℕ → ℕ → List ℕ → Option (ℕ × List ℕ)
-long_within low high = guarded_at (is_outside low high) (number_at w64)
-
-unfoldable pub limited_at : ℕ → List ℕ → Option (List ℕ × List ℕ)
-limited_at limit = guarded_at (is_longer limit) counted_at
 
 unfoldable pub wrap_at : List ℕ → Option (Wrap × List ℕ)
 wrap_at bytes = do
-  child ← number_within CHILD_MIN CHILD_MAX bytes
+  child ← number_within w32 CHILD_MIN CHILD_MAX bytes
   child_gen ← number_at w32 child.1
   body ← piece_at 32 child_gen.1
   Some (record { child = child.0; child_gen = child_gen.0; body = body.0 }, body.1)
@@ -60,9 +47,7 @@ kind_of (suc (suc zero)) = remove_at
 kind_of (suc (suc (suc tag))) = λ bytes. None
 
 unfoldable pub kind_at : List ℕ → Option (Kind × List ℕ)
-kind_at bytes = do
-  tag ← byte_at bytes
-  kind_of tag.0 tag.1
+kind_at = tagged_at kind_of
 
 unfoldable pub signature_at : List ℕ → Option (List ℕ × List ℕ)
 signature_at = limited_at SIGNATURE_BYTES_MAX
@@ -72,7 +57,7 @@ signed_at size = optional_at (is_signed size) (no_root, []) (both_at (piece_at 3
 
 unfoldable pub view_at : ℕ → List ℕ → Option (View × List ℕ)
 view_at wall bytes = do
-  size ← long_within 0 VIEW_SIZE_MAX bytes
+  size ← number_within w64 0 VIEW_SIZE_MAX bytes
   signed ← signed_at size.0 size.1
   Some (record { wall = wall; size = size.0; root = signed.0.0; sig = signed.0.1 }, signed.1)
 
@@ -80,7 +65,7 @@ unfoldable pub op_at : List ℕ → Option (Op × List ℕ)
 op_at bytes = do
   wall ← number_at w32 bytes
   author ← number_at w32 wall.1
-  seq ← number_within 0 SEQ_MAX author.1
+  seq ← number_within w32 0 SEQ_MAX author.1
   epoch ← number_at w64 seq.1
   view ← view_at wall.0 epoch.1
   kind ← kind_at view.1

@@ -1,8 +1,9 @@
 -- The one spelling of each operation and leaf, and the ranges of their parts. Numbers are big-endian.
-use Rattle.std.specs.Prelude.{◌≡◌, ℕ, ◌<◌, ◌≤◌, ◌^◌, Bool, List, [], ◌∷◌, ◌++◌, length, replicate, nat_lt}
+use Rattle.std.specs.Prelude.{◌≡◌, ℕ, ◌<◌, ◌^◌, Bool, List, [], ◌∷◌, ◌++◌, length, replicate, nat_lt}
 use Rattle.std.specs.List.{flat_map, AllByRecursion}
 use Rattle.std.specs.Int.{w32, w64, to_be_bytes}
 use Rattle.fr_bytes.specs.Bytes.{IsBytes, counted}
+use Rattle.fr_bytes.specs.Parts.{IsWithin, IsLimited, fit_optional, spelled_optional}
 use Rattle.op_types.specs.declared.kind.Wrap.{Wrap}
 use Rattle.op_types.specs.declared.kind.Kind.{Kind}
 use Rattle.op_types.specs.declared.kind.Kind.TheVariants.{Post, Admit, Remove}
@@ -11,17 +12,12 @@ use Rattle.op_types.specs.declared.op.Op.{Op}
 use Rattle.op_types.specs.declared.op.Leaf.{Leaf}
 use Rattle.op_types.specs.declared.roles.TheConstants.{READER, WRITER}
 use Rattle.op_types.specs.declared.limits.TheConstants.{SEQ_MAX, VIEW_SIZE_MAX, BODY_BYTES_MAX, SIGNATURE_BYTES_MAX, SLOT_MAX, WRAPS_MAX, CHILD_MIN, CHILD_MAX}
-use Rattle.op_types.specs.Parts.{IsWithin, fit_optional, spelled_optional}
 
 -- ---- bytes
 
 -- 32 bytes
 abbrev pub IsDig : List ℕ → Type 0
 IsDig x = (length x ≡ 32) × IsBytes x
-
--- bytes of a limited number
-abbrev pub IsLimited : ℕ → List ℕ → Type 0
-IsLimited limit x = (length x ≤ limit) × IsBytes x
 
 -- ---- wraps
 

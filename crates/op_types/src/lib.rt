@@ -22,4 +22,4 @@ pub use reading::{read_leaf, read_op};
 pub use roles::{OWNER, READER, WRITER, may_write};
 pub use view::View;
 pub use writing::{write_leaf, write_op};
-pub use written::WrittenLeaves;
+pub use written::{WrittenLeaves, op_part};

@@ -1,8 +1,8 @@
 ghost use Rattle.std.specs.Prelude.{◌≡◌, ℕ, List, Option, Some, IfOk, IsErrOf, length};
-ghost use Rattle.std.specs.Int.{w32, w64};
-ghost use Rattle.fr_bytes.specs.Reading.{Gives, GivesAll, piece_at, number_at, counted_at, times_at, all_of};
+ghost use Rattle.fr_bytes.specs.Reading.{Gives, GivesAll, piece_at, times_at, all_of};
+ghost use Rattle.fr_bytes.specs.Parts.{limited_at};
 ghost use Rattle.op_types.specs.Spelling.{no_root, SpellsOp, SpellsLeaf};
-ghost use Rattle.op_types.specs.Reading.{byte_within, number_within, long_within, limited_at, wrap_at, wraps_at, post_at, admit_at, remove_at, kind_of, kind_at, signature_at, signed_at, view_at, op_at, leaf_at};
+ghost use Rattle.op_types.specs.Reading.{wrap_at, wraps_at, post_at, admit_at, remove_at, kind_of, kind_at, signature_at, signed_at, view_at, op_at, leaf_at};
 
 use crate::kind::{Kind, Wrap, Wraps};
 use crate::limits::*;
@@ -14,39 +14,6 @@ use fr_digest::Dig;
 use std::alloc::Global;
 
 // ---- parts
-
-#[tactic(auto, unfolding(crate::specs::Reading::byte_within))]
-fn u8_within(cur: &mut Cur<'_>, low: u8, high: u8) -> Result<u8, ReadRefusal>
-    ensures { Gives (λ x. x) result cur.new (byte_within low high cur.old) }
-{
-    let x = cur.u8()?;
-    if x < low || high < x {
-        return Err(ReadRefusal::NotForm);
-    }
-    Ok(x)
-}
-
-#[tactic(auto, unfolding(crate::specs::Reading::number_within))]
-fn u32_within(cur: &mut Cur<'_>, low: u32, high: u32) -> Result<u32, ReadRefusal>
-    ensures { Gives (λ x. x) result cur.new (number_within low high cur.old) }
-{
-    let x = cur.u32()?;
-    if x < low || high < x {
-        return Err(ReadRefusal::NotForm);
-    }
-    Ok(x)
-}
-
-#[tactic(auto, unfolding(crate::specs::Reading::long_within))]
-fn u64_within(cur: &mut Cur<'_>, low: u64, high: u64) -> Result<u64, ReadRefusal>
-    ensures { Gives (λ x. x) result cur.new (long_within low high cur.old) }
-{
-    let x = cur.u64()?;
-    if x < low || high < x {
-        return Err(ReadRefusal::NotForm);
-    }
-    Ok(x)
-}
 
 /// A copy of 32 bytes.
 fn dig_of(bytes: &[u8]) -> Dig
@@ -65,21 +32,11 @@ fn dig_at(cur: &mut Cur<'_>) -> Result<Dig, ReadRefusal>
     Ok(dig_of(bytes))
 }
 
-/// The bytes behind their number.
-#[tactic(auto, unfolding(fr_bytes::specs::Reading::counted_at))]
-fn counted_of<'a>(cur: &mut Cur<'a>) -> Result<&'a [u8], ReadRefusal>
-    ensures { Gives (λ x. x.now) result cur.new (counted_at cur.old) }
-{
-    let n = cur.u32()?;
-    let bytes = cur.take(n as usize)?;
-    Ok(bytes)
-}
-
-#[tactic(auto, unfolding(crate::specs::Reading::limited_at))]
+#[tactic(auto, unfolding(fr_bytes::specs::Parts::limited_at))]
 fn limited_of(alloc: Global, cur: &mut Cur<'_>, limit: u32) -> Result<Bytes, ReadRefusal>
     ensures { Gives (λ x. x) result cur.new (limited_at limit cur.old) }
 {
-    let bytes = counted_of(cur)?;
+    let bytes = cur.counted()?;
     if bytes.len() > limit as usize {
         return Err(ReadRefusal::NotForm);
     }
@@ -99,7 +56,7 @@ fn signature_of(alloc: Global, cur: &mut Cur<'_>) -> Result<Bytes, ReadRefusal>
 fn wrap_of(cur: &mut Cur<'_>) -> Result<Wrap, ReadRefusal>
     ensures { Gives (λ x. x) result cur.new (wrap_at cur.old) }
 {
-    let child = u32_within(cur, CHILD_MIN, CHILD_MAX)?;
+    let child = cur.u32_within(CHILD_MIN, CHILD_MAX)?;
     let child_gen = cur.u32()?;
     let body = dig_at(cur)?;
     Ok(Wrap {
@@ -125,7 +82,7 @@ fn wraps_times(alloc: Global, cur: &mut Cur<'_>, count: u8) -> Result<Vec<Wrap>,
 fn wraps_of(alloc: Global, cur: &mut Cur<'_>) -> Result<Wraps, ReadRefusal>
     ensures { Gives (λ x. x) result cur.new (wraps_at cur.old) }
 {
-    let count = u8_within(cur, 0, WRAPS_MAX)?;
+    let count = cur.u8_within(0, WRAPS_MAX)?;
     let wraps = wraps_times(alloc, cur, count)?;
     Ok(Sequence::of(wraps))
 }
@@ -143,8 +100,8 @@ fn admit_of(alloc: Global, cur: &mut Cur<'_>) -> Result<Kind, ReadRefusal>
     ensures { Gives (λ x. x) result cur.new (admit_at cur.old) }
 {
     let user = cur.u32()?;
-    let role = u8_within(cur, READER, WRITER)?;
-    let slot = u8_within(cur, 0, SLOT_MAX)?;
+    let role = cur.u8_within(READER, WRITER)?;
+    let slot = cur.u8_within(0, SLOT_MAX)?;
     let wraps = wraps_of(alloc, cur)?;
     Ok(Kind::Admit {
         user,
@@ -159,7 +116,7 @@ fn remove_of(alloc: Global, cur: &mut Cur<'_>) -> Result<Kind, ReadRefusal>
     ensures { Gives (λ x. x) result cur.new (remove_at cur.old) }
 {
     let user = cur.u32()?;
-    let slot = u8_within(cur, 0, SLOT_MAX)?;
+    let slot = cur.u8_within(0, SLOT_MAX)?;
     let wraps = wraps_of(alloc, cur)?;
     Ok(Kind::Remove { user, slot, wraps })
 }
@@ -213,7 +170,7 @@ fn signed_of(alloc: Global, cur: &mut Cur<'_>, size: u64) -> Result<(Dig, Bytes)
 fn view_of(alloc: Global, cur: &mut Cur<'_>, wall: u32) -> Result<View, ReadRefusal>
     ensures { Gives (λ x. x) result cur.new (view_at wall cur.old) }
 {
-    let size = u64_within(cur, 0, VIEW_SIZE_MAX)?;
+    let size = cur.u64_within(0, VIEW_SIZE_MAX)?;
     let (root, sig) = signed_of(alloc, cur, size)?;
     Ok(View {
         wall,
@@ -229,7 +186,7 @@ fn op_of(alloc: Global, cur: &mut Cur<'_>) -> Result<Op, ReadRefusal>
 {
     let wall = cur.u32()?;
     let author = cur.u32()?;
-    let seq = u32_within(cur, 0, SEQ_MAX)?;
+    let seq = cur.u32_within(0, SEQ_MAX)?;
     let epoch = cur.u64()?;
     let view = view_of(alloc, cur, wall)?;
     let kind = kind_at_front(alloc, cur)?;

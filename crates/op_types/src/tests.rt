@@ -102,6 +102,7 @@ fn leaves_are_read_and_written(rt: HostRuntime) -> Result<(), Fail> {
         assert_eq!(rt; leaf.epoch, 1_099_511_627_777);
         assert!(rt; leaf.op == op_of(rt.alloc(), case)?);
         assert_eq!(rt; write_leaf(rt.alloc(), &leaf)?.as_slice(), text.as_slice());
+        assert_eq!(rt; op_part(&text), join(rt.alloc(), case.text)?.as_slice());
     }
     Ok(())
 }

@@ -1,21 +1,11 @@
 ghost use Rattle.std.specs.Prelude.{◌≡◌, ◌<◌, ◌^◌, ◌++◌, length, IfOk, OnOk};
-ghost use Rattle.fr_bytes.specs.Bytes.{counted};
 ghost use Rattle.op_types.specs.Spelling.{IsKind, IsView, IsOp, IsLeaf, AreWraps, wrap_text, wraps_text, kind_text, view_text, unsigned_text, op_text, leaf_text};
 
 use crate::kind::{Kind, Wrap, Wraps};
 use crate::op::{Leaf, Op};
 use crate::view::View;
-use fr_bytes::{Bytes, NoMemory, put_bytes, put_u8, put_u32, put_u64};
+use fr_bytes::{Bytes, NoMemory, put_bytes, put_counted, put_u8, put_u32, put_u64};
 use std::alloc::Global;
-
-/// The bytes behind their number.
-fn put_counted(out: &mut Vec<u8>, bytes: &[u8]) -> Result<(), NoMemory>
-    requires { length bytes.now < 2 ^ 32 }
-    ensures { OnOk result (out.new.items ≡ out.old.items ++ counted bytes.now) }
-{
-    put_u32(out, bytes.len() as u32)?;
-    put_bytes(out, bytes)
-}
 
 fn put_wrap(out: &mut Vec<u8>, wrap: &Wrap) -> Result<(), NoMemory>
     ensures { OnOk result (out.new.items ≡ out.old.items ++ wrap_text wrap.now) }

@@ -1,12 +1,29 @@
-ghost use Rattle.std.specs.Prelude.{◌≡◌, ◌++◌, ◌∷◌, [], length, map, OnOk, OnErr};
+ghost use Rattle.std.specs.Prelude.{◌≡◌, ◌++◌, ◌∷◌, [], drop, length, map, OnOk, OnErr};
 ghost use Rattle.std.specs.List.{AllByRecursion};
-ghost use Rattle.op_types.specs.Spelling.{IsLeaf, SpellsLeaf, leaf_text};
+ghost use Rattle.op_types.specs.declared.op.Leaf.{Leaf};
+ghost use Rattle.op_types.specs.Spelling.{IsLeaf, SpellsLeaf, leaf_text, op_text};
 
 use crate::op::{Leaf, Leaves};
 use crate::writing::write_leaf;
 use fr_bytes::{Bytes, NoMemory, Sequence};
 use std::alloc::Global;
 use std::marker::Model;
+
+/// Where a leaf's text has its operation: behind the digest of 32 bytes and the epoch of 8.
+const OP_PLACE: usize = 40;
+
+/// The bytes of the operation in a leaf's text, which stand behind a digest and an epoch: the bytes
+/// behind the first 40. Takes no memory.
+pub fn op_part(text: &[u8]) -> &[u8]
+    ensures bytes { result.now ≡ drop 40 text.now }
+    ensures op { (leaf : Leaf) → SpellsLeaf leaf text.now → result.now ≡ op_text leaf.op }
+{
+    if text.len() < OP_PLACE {
+        return &[];
+    }
+    let (_, op) = text.split_at(OP_PLACE);
+    op
+}
 
 /// Leaves with their texts, each written or read once.
 ///

@@ -1,6 +1,6 @@
 -- The test of an author's signature, and the length of what a signer makes.
-use Rattle.std.proofs.Common.{◌≡◌, ◌∙◌, ℕ, ◌+◌, ◌*◌, ◌≤◌, Bool, true, false, List, length, Option, Some, None, refl, sym, ap, subst, arith}
-use Rattle.std.specs.Prelude.{◌↔◌, Result, Ok, Err, IfOk, IsTrue}
+use Rattle.std.proofs.Common.{◌≡◌, ◌∙◌, ℕ, ◌+◌, ◌*◌, ◌≤◌, Bool, true, List, length, Option, Some, None, refl, sym, ap, arith}
+use Rattle.std.specs.Prelude.{◌↔◌, IsTrue}
 use Rattle.op_types.specs.declared.op.Op.{Op}
 use Rattle.op_types.specs.declared.limits.TheConstants.{SIGNATURE_BYTES_MAX}
 use Rattle.op_types.specs.Spelling.{op_signed, unsigned_text}

@@ -1,5 +1,6 @@
 ghost use Rattle.std.specs.Prelude.{◌≡◌, ◌↔◌, ◌^◌, IfOk, OnOk, OnErr};
-ghost use Rattle.op_types.specs.Spelling.{IsLimited, IsOp};
+ghost use Rattle.fr_bytes.specs.Parts.{IsLimited};
+ghost use Rattle.op_types.specs.Spelling.{IsOp};
 ghost use Rattle.op_types.specs.declared.limits.TheConstants.{SIGNATURE_BYTES_MAX};
 ghost use Rattle.signed_ops.specs.Signed.{once_more, signed_by, with_sig};
 

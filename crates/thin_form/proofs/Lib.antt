@@ -1,4 +1,3 @@
-pub mod LeafTexts
 pub mod MessageLemmas
 pub mod ThinScriptLemmas
 pub mod ReportLemmas

@@ -18,7 +18,7 @@ use Rattle.thin_form.specs.declared.messages.Request.TheVariants.{Look, Append}
 use Rattle.thin_form.specs.declared.messages.Reply.{Reply}
 use Rattle.thin_form.specs.declared.messages.Reply.TheVariants.{Whole, Refused}
 use Rattle.thin_form.specs.ThinMessages.{IsRequest, request_text, request_at, request_of, IsWhole, counted_leaf, leaves_text, cause_number, cause_detail, refusal_text, IsReply, reply_text, counted_leaf_at, leaves_at, cause_of, refusal_at, reply_at, reply_of}
-use Rattle.thin_form.proofs.LeafTexts.{leaf_limited, leaf_text-short}
+use Rattle.op_types.proofs.LeafTexts.{leaf_limited, leaf_text-short}
 
 exact_u64 : IsExact (IsBelow (2 ^ 64)) (to_be_bytes w64) (number_at w64)
 exact_u64 = exact_number w64 (2 ^ 64) wide64

@@ -13,7 +13,7 @@ use Rattle.fr_bytes.specs.declared.refusals.ReadRefusal.{ReadRefusal}
 use Rattle.fr_bytes.specs.declared.refusals.ReadRefusal.TheVariants as refusals
 use Rattle.fr_bytes.proofs.Formats.{bind_some, some_is, all_ended}
 use Rattle.op_types.specs.declared.roles.TheConstants.{READER, WRITER}
-use Rattle.op_types.specs.Parts.{IsWithin}
+use Rattle.fr_bytes.specs.Parts.{IsWithin}
 use Rattle.thin_form.specs.declared.thin_script.Line.{Line}
 use Rattle.thin_form.specs.declared.thin_script.Command.{Command}
 use Rattle.thin_form.specs.declared.thin_script.Command.TheVariants.{Post, Read, Admit, Remove}

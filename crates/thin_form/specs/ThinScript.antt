@@ -2,7 +2,7 @@
 use Rattle.std.specs.Prelude.{◌≡◌, ℕ, ◌+◌, ◌<◌, ◌≤◌, List, [], ◌∷◌, ◌++◌, length, codes, Bool, true, ◌&&◌, nat_le, nat_eq, if◌then◌else◌}
 use Rattle.std.specs.List.{flat_map, list_all, AllByRecursion}
 use Rattle.op_types.specs.declared.roles.TheConstants.{READER, WRITER}
-use Rattle.op_types.specs.Parts.{IsWithin}
+use Rattle.fr_bytes.specs.Parts.{IsWithin}
 use Rattle.thin_form.specs.declared.thin_script.Line.{Line}
 use Rattle.thin_form.specs.declared.thin_script.Command.{Command}
 use Rattle.thin_form.specs.declared.thin_script.Command.TheVariants.{Post, Read, Admit, Remove}

@@ -1,13 +1,15 @@
 ghost use Rattle.std.specs.Prelude.{◌≡◌, ◌++◌, List, ℕ, length, IfOk, OnOk, ◌<◌, ◌^◌, ◌≤◌};
 ghost use Rattle.std.specs.List.{flat_map, AllByRecursion};
 ghost use Rattle.fr_bytes.specs.Bytes.{counted};
-ghost use Rattle.fr_bytes.specs.Reading.{Gives, GivesAll, counted_at, times_at, as_at, all_of};
+ghost use Rattle.fr_bytes.specs.Reading.{Gives, GivesAll, times_at, as_at, all_of};
 ghost use Rattle.op_types.specs.Spelling.{SpellsLeaf};
 ghost use Rattle.op_types.specs.Reading.{op_at};
 ghost use Rattle.thin_form.specs.ThinMessages.{IsRequest, request_text, request_of, cause_number, cause_detail, cause_of, reply_text, counted_leaf_at, leaves_at, refusal_at, reply_at, reply_of};
 
 use crate::outcome::Cause;
-use fr_bytes::{Bytes, Cur, NoMemory, ReadRefusal, put_bytes, put_u8, put_u32, put_u64};
+use fr_bytes::{
+    Bytes, Cur, NoMemory, ReadRefusal, put_bytes, put_counted, put_u8, put_u32, put_u64,
+};
 use op_types::{Leaf, Op, WrittenLeaves, read_leaf, read_op, write_op};
 use std::alloc::Global;
 
@@ -93,14 +95,6 @@ pub fn read_request(alloc: Global, bytes: &[u8]) -> Result<Request, ReadRefusal>
 
 // ---- replies, written
 
-fn put_counted(out: &mut Vec<u8>, text: &[u8]) -> Result<(), NoMemory>
-    requires { length text.now < 2 ^ 32 }
-    ensures { OnOk result (out.new.items ≡ out.old.items ++ counted text.now) }
-{
-    put_u32(out, text.len() as u32)?;
-    put_bytes(out, text)
-}
-
 fn put_texts(out: &mut Vec<u8>, texts: &[Bytes]) -> Result<(), NoMemory>
     requires { AllByRecursion (λ (text : List ℕ). length text < 2 ^ 32) texts.now }
     ensures { OnOk result (out.new.items ≡ out.old.items ++ flat_map counted texts.now) }
@@ -164,22 +158,13 @@ pub fn write_refusal(alloc: Global, cause: Cause) -> Result<Bytes, NoMemory>
 
 // ---- replies, read
 
-#[tactic(auto, unfolding(fr_bytes::specs::Reading::counted_at))]
-fn counted_of<'a>(cur: &mut Cur<'a>) -> Result<&'a [u8], ReadRefusal>
-    ensures { Gives (λ x. x.now) result cur.new (counted_at cur.old) }
-{
-    let n = cur.u32()?;
-    let bytes = cur.take(n as usize)?;
-    Ok(bytes)
-}
-
 /// A leaf behind the length of its text, with the text.
 #[tactic(auto, unfolding(crate::specs::ThinMessages::counted_leaf_at))]
 fn counted_leaf_of(alloc: Global, cur: &mut Cur<'_>) -> Result<(Bytes, Leaf), ReadRefusal>
     ensures spelled { IfOk result (λ x. SpellsLeaf x.1 x.0) }
     ensures reads { Gives (λ x. x.1) result cur.new (counted_leaf_at cur.old) }
 {
-    let text = counted_of(cur)?;
+    let text = cur.counted()?;
     let leaf = read_leaf(alloc, text)?;
     Ok((Bytes::of(Vec::from_slice(alloc, text)?), leaf))
 }

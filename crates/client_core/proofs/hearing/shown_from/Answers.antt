@@ -1,4 +1,4 @@
-use Rattle.std.proofs.Common.{◌≡◌, ◌∙◌, ◌+◌, ◌++◌, ◌∷◌, [], ap}
+use Rattle.std.proofs.Common.{◌∙◌, ◌+◌, ◌++◌, ◌∷◌, [], ap}
 use Rattle.thin_form.specs.declared.outcome.ShownKind.{ShownKind}
 use Rattle.client_core.specs.Hearing.{shown_from}
 use Rattle.client_core.proofs.Rows.{shows_on, shows_all}

@@ -1,4 +1,4 @@
-use Rattle.std.proofs.Common.{rules, ◌≡◌, ◌∙◌, ◌≤◌, ap, sym, subst, take, length, arith}
+use Rattle.std.proofs.Common.{◌∙◌, ap, sym, subst, take, arith}
 use Rattle.std.proofs.lemmas.List.{length-take, take_all}
 use Rattle.tree_model.specs.AccessList.{IsRising}
 use Rattle.wall_law.specs.declared.state.State.{State}

@@ -1,4 +1,4 @@
-use Rattle.std.proofs.Common.{◌≡◌, ◌∙◌, sym}
+use Rattle.std.proofs.Common.{◌∙◌, sym}
 use Rattle.client_core.proofs.Rows.{early-none}
 use Rattle.client_core.proofs.judging.judge_leaves.Goals as goal
 

@@ -1,4 +1,4 @@
-use Rattle.std.proofs.Common.{◌≡◌, ◌∙◌, ap, sym, subst, Ok, Option, List, ℕ}
+use Rattle.std.proofs.Common.{subst}
 use Rattle.std.specs.Prelude.{option_map}
 use Rattle.client_core.specs.Walking.{Walked, states_after}
 use Rattle.client_core.specs.Judging.{positions_verdict}

@@ -1,4 +1,4 @@
-use Rattle.std.proofs.Common.{◌≡◌, ◌∙◌, sym, ap, subst, ◌<◌, length}
+use Rattle.std.proofs.Common.{◌∙◌, sym, ap, subst, ◌<◌, length}
 use Rattle.wall_law.specs.Law.{refusal_of}
 use Rattle.wall_law.specs.declared.state.State.{State}
 use Rattle.wall_law.proofs.Owners.{some-after}

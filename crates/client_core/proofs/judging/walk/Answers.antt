@@ -1,4 +1,4 @@
-use Rattle.std.proofs.Common.{rules, ◌≡◌, ◌+◌, Ok, subst, arith}
+use Rattle.std.proofs.Common.{◌+◌, Ok, subst, arith}
 use Rattle.wall_law.specs.State.{after}
 use Rattle.client_core.specs.Judging.{position_verdict}
 use Rattle.client_core.specs.Walking.{Walked}

@@ -1,4 +1,3 @@
-use Rattle.std.proofs.Common.{◌≡◌}
 use Rattle.client_core.proofs.Rows.{Walks}
 use Rattle.client_core.proofs.judging.walk.Given as goal
 

@@ -1,4 +1,4 @@
-use Rattle.std.proofs.Common.{◌≡◌, arith}
+use Rattle.std.proofs.Common.{arith}
 use Rattle.op_types.proofs.laws.slices_of_bytes.Goals as goal
 
 pub returns : goal.returns

@@ -1,4 +1,4 @@
-use Rattle.std.proofs.Common.{◌≡◌, ℕ, List, Result, Ok, Err, Option, Some, None, arith}
+use Rattle.std.proofs.Common.{arith}
 use Rattle.op_types.proofs.Readers.{leaf_is_found, leaf_is_only}
 use Rattle.op_types.proofs.reading.read_leaf.Goals as goal
 

@@ -1,9 +1,9 @@
-use Rattle.std.proofs.Common.{◌≡◌, ◌++◌, ◌∷◌, [], Vec, Global}
+use Rattle.std.proofs.Common.{Vec, Global}
 use Rattle.std.proofs.lemmas.Result.{err_from_is_err_and}
 use Rattle.fr_bytes.specs.Reading.{times_at}
 use Rattle.op_types.specs.declared.kind.Wrap.{Wrap}
 use Rattle.op_types.specs.Reading.{wrap_at}
-use Rattle.op_types.proofs.Parts.{times-goes_on, times-ends, times-is_done}
+use Rattle.fr_bytes.proofs.Parts.{times-goes_on, times-ends, times-is_done}
 use Rattle.op_types.proofs.reading.wraps_times.Goals as goal
 
 pub returns-in_err-wrap : goal.returns-in_err-wrap

@@ -1,7 +1,7 @@
 use Rattle.std.proofs.Common.{◌≡◌, ◌-◌}
 use Rattle.fr_bytes.specs.Reading.{times_at}
 use Rattle.op_types.specs.Reading.{wrap_at}
-use Rattle.op_types.proofs.Parts.{with_front}
+use Rattle.fr_bytes.proofs.Parts.{with_front}
 use Rattle.op_types.proofs.reading.wraps_times.Given as goal
 
 abbrev pub invariant-loop : goal.invariant-loop

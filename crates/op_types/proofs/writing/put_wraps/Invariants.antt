@@ -1,4 +1,4 @@
-use Rattle.std.proofs.Common.{◌≡◌, ◌++◌, ◌∷◌, [], length, take}
+use Rattle.std.proofs.Common.{◌≡◌, ◌++◌, ◌∷◌, length, take}
 use Rattle.std.specs.List.{flat_map}
 use Rattle.op_types.specs.Spelling.{wrap_text}
 use Rattle.op_types.proofs.writing.put_wraps.Given as goal

@@ -1,7 +1,5 @@
-use Rattle.std.proofs.Common.{◌≡◌, ◌∙◌, sym, Bool}
-use Rattle.std.specs.Prelude.{IsTrue, ◌↔◌}
+use Rattle.std.proofs.Common.{◌∙◌, sym}
 use Rattle.std.proofs.lemmas.Result.{IfOk-weaker}
-use Rattle.signed_ops.specs.Signed.{is_signed_under, IsAuthorSigned}
 use Rattle.signed_ops.proofs.Signatures.{signed_test, found_test}
 use Rattle.signed_ops.proofs.keys.is_author_signed.Goals as goal
 

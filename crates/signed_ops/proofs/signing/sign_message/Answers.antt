@@ -1,4 +1,4 @@
-use Rattle.std.proofs.Common.{◌≡◌, subst}
+use Rattle.std.proofs.Common.{subst}
 use Rattle.fr_bytes.specs.Bytes.{IsBytes}
 use Rattle.signed_ops.proofs.Signatures.{short_enough}
 use Rattle.signed_ops.proofs.signing.sign_message.Goals as goal

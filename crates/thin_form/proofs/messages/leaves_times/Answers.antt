@@ -2,7 +2,7 @@ use Rattle.std.proofs.Common.{ℕ, List}
 use Rattle.std.proofs.lemmas.Result.{err_from_is_err_and}
 use Rattle.fr_bytes.specs.Reading.{times_at}
 use Rattle.op_types.specs.declared.op.Leaf.{Leaf}
-use Rattle.op_types.proofs.Parts.{times-goes_on, times-ends, times-is_done}
+use Rattle.fr_bytes.proofs.Parts.{times-goes_on, times-ends, times-is_done}
 use Rattle.thin_form.specs.ThinMessages.{counted_leaf_at}
 use Rattle.thin_form.proofs.messages.leaves_times.Goals as goal
 

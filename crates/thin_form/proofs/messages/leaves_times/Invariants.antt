@@ -1,6 +1,6 @@
 use Rattle.std.proofs.Common.{◌≡◌, ◌-◌}
 use Rattle.fr_bytes.specs.Reading.{times_at}
-use Rattle.op_types.proofs.Parts.{with_front}
+use Rattle.fr_bytes.proofs.Parts.{with_front}
 use Rattle.thin_form.specs.ThinMessages.{counted_leaf_at}
 use Rattle.thin_form.proofs.messages.leaves_times.Given as goal
 

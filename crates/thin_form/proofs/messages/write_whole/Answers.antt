@@ -1,4 +1,4 @@
-use Rattle.thin_form.proofs.LeafTexts.{leaf_texts-short}
+use Rattle.op_types.proofs.LeafTexts.{leaf_texts-short}
 use Rattle.thin_form.proofs.MessageLemmas.{whole_written}
 use Rattle.thin_form.proofs.messages.write_whole.Goals as goal
 

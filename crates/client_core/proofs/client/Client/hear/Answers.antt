@@ -1,4 +1,4 @@
-use Rattle.std.proofs.Common.{◌≡◌, sym, subst}
+use Rattle.std.proofs.Common.{sym, subst}
 use Rattle.std.specs.Option.{option_copied}
 use Rattle.client_core.specs.declared.judgement.Judgement.{Judgement}
 use Rattle.client_core.specs.Hearing.{IsAhead}

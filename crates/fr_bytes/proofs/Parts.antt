@@ -1,15 +1,16 @@
--- That reading and spelling agree, for parts of formats beside those of fr_bytes; and reading a list
--- value after value, as a loop does.
-use Rattle.std.proofs.Common.{◌≡◌, ℕ, suc, ◌+◌, ◌-◌, ◌<◌, ◌≤◌, Bool, true, false, cond, ltb, ◌||◌, List, [], ◌∷◌, ◌++◌, length, Option, Some, None, Result, Ok, Err, refl, sym, ap, subst, ◌∙◌, append_assoc, arith}
+-- That reading and spelling agree, for parts that formats share; and reading a list value after value,
+-- as a loop does.
+use Rattle.std.proofs.Common.{◌≡◌, ℕ, suc, ◌+◌, ◌-◌, ◌^◌, ◌<◌, ◌≤◌, Bool, true, false, cond, ltb, ◌||◌, List, [], ◌∷◌, ◌++◌, length, Option, Some, None, Err, refl, sym, ap, subst, ◌∙◌, append_assoc, arith}
 use Rattle.std.specs.List.{flat_map, AllByRecursion}
-use Rattle.std.proofs.lemmas.Bool.{ltb-false, le-ltb, lt-ltb}
+use Rattle.std.specs.Int.{Width, to_be_bytes}
+use Rattle.std.proofs.lemmas.Bool.{ltb-false, le-ltb}
 use Rattle.std.proofs.lemmas.List.{append-nil}
 use Rattle.fr_bytes.specs.declared.refusals.ReadRefusal.{ReadRefusal}
 use Rattle.fr_bytes.specs.declared.refusals.ReadRefusal.TheVariants as refusals
-use Rattle.fr_bytes.specs.Bytes.{IsBytes}
-use Rattle.fr_bytes.specs.Reading.{◌>>=◌, times_at, Gives, IsExact}
-use Rattle.fr_bytes.proofs.Formats.{IsBytes-rest, bind_some, guard_some, some_is, fit_times, exact_times}
-use Rattle.op_types.specs.Parts.{guarded_at, IsWithin, is_outside, is_longer, optional_at, fit_optional, spelled_optional, listed_at}
+use Rattle.fr_bytes.specs.Bytes.{counted}
+use Rattle.fr_bytes.specs.Reading.{◌>>=◌, byte_at, number_at, counted_at, times_at, Gives, IsExact}
+use Rattle.fr_bytes.specs.Parts.{IsWithin, IsLimited, is_outside, is_longer, guarded_at, byte_within, number_within, limited_at, tagged_at, optional_at, fit_optional, spelled_optional, listed_at}
+use Rattle.fr_bytes.proofs.Formats.{IsBytes-rest, IsBelow, IsCounted, IsWide, single, bind_some, guard_some, some_is, fit_times, exact_byte, exact_number, exact_counted, exact_times}
 
 -- ---- a value after value
 
@@ -112,6 +113,27 @@ within_inside low high n h = rw (le-ltb n low h.0, le-ltb high n h.1) refl
 -- numbers from low to high
 pub exact_within : (fits : ℕ → Type 0) (spelling : ℕ → List ℕ) (read : List ℕ → Option (ℕ × List ℕ)) (low high : ℕ) → IsExact fits spelling read → ((n : ℕ) → n ≤ high → fits n) → IsExact (IsWithin low high) spelling (guarded_at (is_outside low high) read)
 exact_within fits spelling read low high exact wide = exact_guarded fits (IsWithin low high) spelling (is_outside low high) read exact (λ n h e. outside_false low high n e) (λ n h. (wide n h.1, within_inside low high n h))
+
+pub exact_byte_within : (low high : ℕ) → high < 256 → IsExact (IsWithin low high) single (byte_within low high)
+unfolding byte_within
+exact_byte_within low high lt = exact_within (IsBelow 256) single byte_at low high exact_byte (λ n le. omega arith)
+
+pub exact_number_within : (w : Width) (limit : ℕ) → IsWide w limit → (low high : ℕ) → high < limit → IsExact (IsWithin low high) (to_be_bytes w) (number_within w low high)
+unfolding number_within
+exact_number_within w limit wide low high lt = exact_within (IsBelow limit) (to_be_bytes w) (number_at w) low high (exact_number w limit wide) (λ n le. omega arith)
+
+-- a counted byte list of a limited number
+pub exact_limited : (limit : ℕ) → limit < 2 ^ 32 → IsExact (IsLimited limit) counted (limited_at limit)
+unfolding limited_at
+exact_limited limit lt = exact_guarded IsCounted (IsLimited limit) counted (is_longer limit) counted_at exact_counted
+    (λ x h e. (ltb-false limit (length x) e, h.1)) (λ x h. ((omega arith, h.1), le-ltb limit (length x) h.0))
+
+-- ---- a tag with its cases
+
+-- Where each value has a tag, and the values of each tag a format of their own.
+pub exact_tagged : {A : Type 0} (fits : A → Type 0) (tag : A → ℕ) (others : A → List ℕ) (cases : ℕ → List ℕ → Option (A × List ℕ)) → ((x : A) → tag x < 256) → ((t : ℕ) → IsExact (λ x. fits x × (tag x ≡ t)) others (cases t))
+    → IsExact fits (λ x. tag x ∷ others x) (tagged_at cases)
+exact_tagged fits tag others cases below each = exact_field (IsBelow 256) single byte_at fits tag others cases exact_byte (λ x h. below x) (λ t h. each t)
 
 -- ---- an optional part
 
