@@ -1,5 +1,5 @@
 use super::*;
-use op_types::{OWNER, READER, WRITER, read_op};
+use op_types::{OWNER, WRITER, read_op};
 use std::alloc::{AllocError, Global};
 use std::test::Fail;
 use tree_model::Entry;
@@ -133,7 +133,6 @@ fn operations_are_judged_in_order(rt: HostRuntime) -> Result<(), Fail> {
         state.entries.as_slice(),
         [entry(1, OWNER, 9), entry(2, WRITER, 1)].as_slice()
     );
-    assert!(rt; READER < WRITER);
     Ok(())
 }
 
