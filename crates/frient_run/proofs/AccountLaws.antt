@@ -11,16 +11,16 @@ use Rattle.signed_ops.specs.declared.known.Known.{Known}
 use Rattle.thin_form.specs.declared.outcome.Decline.{Decline}
 use Rattle.thin_form.specs.declared.outcome.Outcome.{Outcome}
 use Rattle.thin_form.specs.ThinMessages.{request_text}
-use Rattle.client_core.specs.declared.side.Side.{Side}
-use Rattle.client_core.specs.declared.side.Took.{Took}
-use Rattle.client_core.specs.Asking.{ClientView, decline_of, asked, having_asked}
-use Rattle.client_core.specs.Judging.{judged}
-use Rattle.client_core.specs.Hearing.{took_of}
-use Rattle.client_core.specs.Operations.{ops_in}
-use Rattle.client_core.specs.Records.{Stands, Acceptance, acceptance_of}
-use Rattle.client_core.proofs.Judgements.{lost-exactly}
-use Rattle.client_core.proofs.OperationLaws.{asked-keeps, asked-signed}
-use Rattle.client_core.proofs.RecordLaws.{records-are, stands-asked, stands-heard, stands-newcomer}
+use Rattle.thin_client.specs.declared.side.Side.{Side}
+use Rattle.thin_client.specs.declared.side.Took.{Took}
+use Rattle.thin_client.specs.Asking.{ClientView, decline_of, asked, having_asked}
+use Rattle.thin_client.specs.Judging.{judged}
+use Rattle.thin_client.specs.Hearing.{took_of}
+use Rattle.thin_client.specs.Operations.{ops_in}
+use Rattle.thin_client.specs.Records.{Stands, Acceptance, acceptance_of}
+use Rattle.thin_client.proofs.Judgements.{lost-exactly}
+use Rattle.thin_client.proofs.OperationLaws.{asked-keeps, asked-signed}
+use Rattle.thin_client.proofs.RecordLaws.{records-are, stands-asked, stands-heard, stands-newcomer}
 use Rattle.frient_run.specs.Fixture.{fixture, start}
 use Rattle.frient_run.specs.Lane.{Heard, Exchange, did, did_or, after, after_or, stream, dids, last, client_of, did_behind, all_dids, exchanges_of, outcomes_of}
 use Rattle.frient_run.specs.Accounts.{outcomes_by, acceptances, LostExactly}

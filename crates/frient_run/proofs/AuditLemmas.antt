@@ -27,14 +27,14 @@ use Rattle.thin_form.specs.declared.outcome.AuditLine.{AuditLine}
 use Rattle.thin_form.specs.declared.thin_script.Command.{Command}
 use Rattle.thin_form.specs.ThinMessages.{IsRequest}
 use Rattle.thin_form.specs.declared.outcome.AuditLine.TheVariants as audits
-use Rattle.client_core.specs.declared.client.Client.{Client}
-use Rattle.client_core.specs.declared.side.Took.{Took}
-use Rattle.client_core.specs.Asking.{ClientView, client_view, kind_of, op_of, request_for, asked, signed_once, having_asked}
-use Rattle.client_core.specs.Judging.{texts_of}
+use Rattle.thin_client.specs.declared.client.Client.{Client}
+use Rattle.thin_client.specs.declared.side.Took.{Took}
+use Rattle.thin_client.specs.Asking.{ClientView, client_view, kind_of, op_of, request_for, asked, signed_once, having_asked}
+use Rattle.thin_client.specs.Judging.{texts_of}
 use Rattle.frient_run.specs.declared.audit.SignedTexts.{SignedTexts}
 use Rattle.frient_run.specs.Audit.{is_among, is_of, is_forged, shown_ops, records_of, first_forgery, difference_at, first_difference, differs, forged_line, compared_line, line_or, audit_of}
 use Rattle.frient_run.specs.Auditing.{IsChained, LinksTexts, signed_texts, lacks, is_lacking, first_line, ops_of, texts_difference, IsForgery, ShowsNoForgery, NoneForged, Says, SignsOps}
-use Rattle.client_core.specs.Records.{Links, Chained, Extends}
+use Rattle.thin_client.specs.Records.{Links, Chained, Extends}
 use Rattle.frient_run.proofs.Searches.{Searches, next_is, front_is, goes_on, stops, found_among, none_passes, each-parts, each-joined, each-of, each-map, each-among, each-take, in_one}
 
 -- ---- forgeries

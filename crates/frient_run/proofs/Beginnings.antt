@@ -5,8 +5,8 @@ use Rattle.std.proofs.lemmas.List.{map-append, take_all, append-nil}
 use Rattle.std.proofs.lemmas.Grind.{flat_map-append}
 use Rattle.lms_tree.specs.Valid.{Key}
 use Rattle.lms_tree.specs.Signer.{Signing}
-use Rattle.client_core.specs.declared.client.Client.{Client}
-use Rattle.client_core.specs.Asking.{ClientView, client_view, opening_side}
+use Rattle.thin_client.specs.declared.client.Client.{Client}
+use Rattle.thin_client.specs.Asking.{ClientView, client_view, opening_side}
 use Rattle.op_types.specs.declared.op.Op.{Op}
 use Rattle.frient_run.specs.declared.record.ThinTook.{ThinTook}
 use Rattle.frient_run.specs.Ends.{thin_took, by_user, thin_records, thin_signed}

@@ -7,10 +7,10 @@ use Rattle.fr_edges.specs.Sink.{with_more}
 use Rattle.signed_ops.specs.declared.known.Known.{Known}
 use Rattle.op_types.specs.declared.kind.Kind.{Kind}
 use Rattle.op_types.specs.declared.op.Leaf.{Leaf}
-use Rattle.hall_core.specs.declared.ask.Ask.{Ask}
-use Rattle.hall_core.specs.declared.ask.Ask.TheVariants as asks
-use Rattle.hall_core.specs.declared.ask.Cause.{Cause}
-use Rattle.hall_core.specs.Wall.{Hall, answer_to, leaves_after, added_or, leaf_of, refused_by}
+use Rattle.thin_hall.specs.declared.ask.Ask.{Ask}
+use Rattle.thin_hall.specs.declared.ask.Ask.TheVariants as asks
+use Rattle.thin_hall.specs.declared.ask.Cause.{Cause}
+use Rattle.thin_hall.specs.Wall.{Hall, answer_to, leaves_after, added_or, leaf_of, refused_by}
 use Rattle.wall_law.specs.State.{state_of}
 use Rattle.thin_form.specs.declared.thin_script.Command.{Command}
 use Rattle.thin_form.specs.declared.outcome.Decline.{Decline}
@@ -23,10 +23,10 @@ use Rattle.thin_form.specs.declared.messages.Request.{Request}
 use Rattle.thin_form.specs.ThinMessages.{IsRequest, request_text, request_of}
 use Rattle.thin_form.specs.Verbs.{verb_of}
 use Rattle.thin_form.proofs.MessageLemmas.{request_again}
-use Rattle.client_core.specs.Asking.{ClientView, decline_of, asked, having_asked, signed_once, kind_of}
-use Rattle.client_core.specs.declared.side.Side.{Side}
-use Rattle.client_core.specs.Judging.{judged}
-use Rattle.client_core.specs.Hearing.{end_of, shown_of, having_heard}
+use Rattle.thin_client.specs.Asking.{ClientView, decline_of, asked, having_asked, signed_once, kind_of}
+use Rattle.thin_client.specs.declared.side.Side.{Side}
+use Rattle.thin_client.specs.Judging.{judged}
+use Rattle.thin_client.specs.Hearing.{end_of, shown_of, having_heard}
 use Rattle.frient_run.specs.Lane.{Placed, Heard, Exchange, exchange, Did, did, did_or, after, after_or, declined_outcome, ask_of, Replies, Answered, Exchanged, Carries, WireHalf, Turned, Step}
 
 -- ---- the wall grows by one at most

@@ -12,9 +12,9 @@ use Rattle.thin_form.specs.declared.thin_script.Line.{Line}
 use Rattle.thin_form.specs.declared.outcome.Outcome.{Outcome}
 use Rattle.thin_form.specs.declared.outcome.AuditLine.{AuditLine}
 use Rattle.thin_form.specs.declared.outcome.AuditLine.TheVariants as audits
-use Rattle.client_core.specs.Asking.{ClientView, newcomer}
-use Rattle.client_core.specs.Records.{Extends}
-use Rattle.client_core.proofs.RecordLaws.{lawful-records}
+use Rattle.thin_client.specs.Asking.{ClientView, newcomer}
+use Rattle.thin_client.specs.Records.{Extends}
+use Rattle.thin_client.proofs.RecordLaws.{lawful-records}
 use Rattle.frient_run.specs.declared.fate.Told.{Told}
 use Rattle.frient_run.specs.declared.fate.Refusal.TheVariants as refusals
 use Rattle.frient_run.specs.declared.fate.Fate.{Fate}

@@ -16,14 +16,14 @@ use Rattle.thin_form.specs.declared.outcome.Decline.{Decline}
 use Rattle.thin_form.specs.declared.outcome.Outcome.{Outcome}
 use Rattle.thin_form.specs.declared.outcome.Place.{Place}
 use Rattle.thin_form.specs.ThinScript.{IsThinLine, IsUser}
-use Rattle.client_core.specs.declared.client.Client.{Client}
-use Rattle.client_core.specs.Asking.{ClientView, client_view, IsReady, asked, decline_of, having_asked, signed_once, kind_of}
-use Rattle.client_core.specs.declared.side.Side.{Side}
-use Rattle.client_core.specs.declared.side.Took.{Took}
-use Rattle.client_core.specs.declared.judgement.Judgement.{Judgement}
-use Rattle.client_core.specs.declared.judgement.Judgement.TheVariants.{Lost, Rejected, Refused, Same, Takes}
-use Rattle.client_core.specs.Judging.{judged}
-use Rattle.client_core.specs.Hearing.{took_of}
+use Rattle.thin_client.specs.declared.client.Client.{Client}
+use Rattle.thin_client.specs.Asking.{ClientView, client_view, IsReady, asked, decline_of, having_asked, signed_once, kind_of}
+use Rattle.thin_client.specs.declared.side.Side.{Side}
+use Rattle.thin_client.specs.declared.side.Took.{Took}
+use Rattle.thin_client.specs.declared.judgement.Judgement.{Judgement}
+use Rattle.thin_client.specs.declared.judgement.Judgement.TheVariants.{Lost, Rejected, Refused, Same, Takes}
+use Rattle.thin_client.specs.Judging.{judged}
+use Rattle.thin_client.specs.Hearing.{took_of}
 use Rattle.thin_form.specs.ThinMessages.{IsRequest, request_text}
 use Rattle.frient_run.specs.Audit.{records_of}
 use Rattle.frient_run.specs.Auditing.{SignsOps}

@@ -10,12 +10,12 @@ use Rattle.fr_bytes.proofs.Lists.{scan-append, each-append, allzip-append}
 use Rattle.fr_edges.specs.Wire.{WireView}
 use Rattle.signed_ops.specs.declared.known.Known.{Known}
 use Rattle.op_types.specs.declared.op.Leaf.{Leaf}
-use Rattle.hall_core.specs.Wall.{answer_to}
-use Rattle.hall_core.specs.Turns.{Called, Turn, turns, turns_from, play, play_from, left_by, LegalFrom}
-use Rattle.hall_core.proofs.TurnLaws.{play_from-append, turns_from-append, legal-append}
+use Rattle.thin_hall.specs.Wall.{answer_to}
+use Rattle.thin_hall.specs.Turns.{Called, Turn, turns, turns_from, play, play_from, left_by, LegalFrom}
+use Rattle.thin_hall.proofs.TurnLaws.{play_from-append, turns_from-append, legal-append}
 use Rattle.thin_form.specs.declared.outcome.Decline.{Decline}
 use Rattle.thin_form.specs.declared.outcome.Outcome.{Outcome}
-use Rattle.client_core.specs.Asking.{ClientView, decline_of}
+use Rattle.thin_client.specs.Asking.{ClientView, decline_of}
 use Rattle.frient_run.specs.Fixture.{users}
 use Rattle.frient_run.specs.Lane.{Placed, Heard, Exchange, Did, did, did_or, after, stream, dids, last, client_of, did_behind, all_dids, exchanges_of, outcomes_of, ask_of, Replies, Serves, WireHalf, RunState, RunSoFar, Turned, Step, IsSpelled}
 use Rattle.frient_run.proofs.Wires.{wire_then}

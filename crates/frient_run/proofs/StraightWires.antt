@@ -12,27 +12,27 @@ use Rattle.op_types.specs.declared.op.Leaf.{Leaf}
 use Rattle.op_types.specs.Spelling.{op_text}
 use Rattle.wall_law.specs.declared.state.State.{State}
 use Rattle.wall_law.specs.State.{state_of}
-use Rattle.hall_core.specs.declared.ask.Ask.{Ask}
-use Rattle.hall_core.specs.declared.ask.Answer.{Answer}
-use Rattle.hall_core.specs.declared.ask.Cause.{Cause}
+use Rattle.thin_hall.specs.declared.ask.Ask.{Ask}
+use Rattle.thin_hall.specs.declared.ask.Answer.{Answer}
+use Rattle.thin_hall.specs.declared.ask.Cause.{Cause}
 use Rattle.signed_ops.specs.Honest.{IsHonest}
-use Rattle.hall_core.specs.Wall.{Begins, answer_to, leaves_after, added_or, placed_or, leaf_of, refused_by}
-use Rattle.hall_core.specs.Turns.{Called, Turn, LegalFrom, left_by, turns_from}
-use Rattle.hall_core.proofs.TurnLaws.{begins-same, begins-through, after-grows, after-honest, honest-nil}
+use Rattle.thin_hall.specs.Wall.{Begins, answer_to, leaves_after, added_or, placed_or, leaf_of, refused_by}
+use Rattle.thin_hall.specs.Turns.{Called, Turn, LegalFrom, left_by, turns_from}
+use Rattle.thin_hall.proofs.TurnLaws.{begins-same, begins-through, after-grows, after-honest, honest-nil}
 use Rattle.thin_form.specs.declared.outcome.Decline.{Decline}
 use Rattle.thin_form.specs.declared.outcome.Outcome.{Outcome}
 use Rattle.thin_form.specs.declared.messages.Request.{Request}
 use Rattle.thin_form.specs.declared.messages.Request.TheVariants as requests
 use Rattle.thin_form.specs.declared.messages.Reply.TheVariants as replies_to
 use Rattle.thin_form.specs.ThinMessages.{request_text, reply_text}
-use Rattle.client_core.specs.Asking.{ClientView, newcomer, decline_of, asked}
-use Rattle.client_core.specs.declared.side.Side.{Side}
-use Rattle.client_core.specs.declared.judgement.Judgement.{Judgement}
-use Rattle.client_core.specs.declared.judgement.Judgement.TheVariants.{Lost, Rejected, Refused, Same, Takes}
-use Rattle.client_core.specs.Judging.{judged}
-use Rattle.client_core.specs.Hearing.{end_of, side_after}
-use Rattle.client_core.specs.Following.{Follows, CatchesUp, is_rejection, is_loss}
-use Rattle.client_core.proofs.FollowingLaws.{follows-newcomer, follows-more, look-heard, append-heard, refusal-heard, sent-append}
+use Rattle.thin_client.specs.Asking.{ClientView, newcomer, decline_of, asked}
+use Rattle.thin_client.specs.declared.side.Side.{Side}
+use Rattle.thin_client.specs.declared.judgement.Judgement.{Judgement}
+use Rattle.thin_client.specs.declared.judgement.Judgement.TheVariants.{Lost, Rejected, Refused, Same, Takes}
+use Rattle.thin_client.specs.Judging.{judged}
+use Rattle.thin_client.specs.Hearing.{end_of, side_after}
+use Rattle.thin_client.specs.Following.{Follows, CatchesUp, is_rejection, is_loss}
+use Rattle.thin_client.proofs.FollowingLaws.{follows-newcomer, follows-more, look-heard, append-heard, refusal-heard, sent-append}
 use Rattle.frient_run.specs.Lane.{Placed, Heard, Exchange, Did, did, did_or, after, after_or, stream, dids, client_of, did_behind, all_dids, exchange, exchanges_of, outcomes_of, ask_of, told_cause, Replies, Serves, Delivery, RunState, RunSoFar}
 use Rattle.frient_run.specs.Untampered.{is_failed, any_failed, StaysWith, IsUntampered}
 use Rattle.frient_run.proofs.Commands.{same_side}

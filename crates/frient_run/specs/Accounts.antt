@@ -5,7 +5,7 @@ use Rattle.std.specs.List.{flat_map}
 use Rattle.thin_form.specs.declared.outcome.CommandEnd.{CommandEnd}
 use Rattle.thin_form.specs.declared.outcome.CommandEnd.TheVariants as ends
 use Rattle.thin_form.specs.declared.outcome.Outcome.{Outcome}
-use Rattle.client_core.specs.Records.{Acceptance, acceptance_in}
+use Rattle.thin_client.specs.Records.{Acceptance, acceptance_in}
 use Rattle.frient_run.specs.Lane.{Did, Exchange}
 
 -- the outcomes of a user's commands

@@ -11,9 +11,9 @@ use Rattle.op_types.specs.declared.op.Leaf.{Leaf}
 use Rattle.op_types.specs.Spelling.{op_text}
 use Rattle.thin_form.specs.declared.outcome.AuditLine.{AuditLine}
 use Rattle.thin_form.specs.declared.outcome.AuditLine.TheVariants as audits
-use Rattle.client_core.specs.declared.side.Took.{Took}
-use Rattle.client_core.specs.Asking.{ClientView}
-use Rattle.client_core.specs.Judging.{texts_of}
+use Rattle.thin_client.specs.declared.side.Took.{Took}
+use Rattle.thin_client.specs.Asking.{ClientView}
+use Rattle.thin_client.specs.Judging.{texts_of}
 
 -- ---- forgeries
 

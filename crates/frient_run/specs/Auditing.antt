@@ -13,12 +13,12 @@ use Rattle.thin_form.specs.declared.outcome.AuditLine.{AuditLine}
 use Rattle.thin_form.specs.declared.outcome.AuditLine.TheVariants as audits
 use Rattle.signed_ops.specs.declared.known.Known.{Known}
 use Rattle.signed_ops.specs.Signed.{is_author_signed}
-use Rattle.client_core.specs.declared.side.Took.{Took}
-use Rattle.client_core.specs.Asking.{ClientView}
-use Rattle.client_core.specs.Judging.{texts_of}
+use Rattle.thin_client.specs.declared.side.Took.{Took}
+use Rattle.thin_client.specs.Asking.{ClientView}
+use Rattle.thin_client.specs.Judging.{texts_of}
 use Rattle.frient_run.specs.declared.audit.SignedTexts.{SignedTexts}
 use Rattle.frient_run.specs.Audit.{is_forged, shown_ops, records_of, forged_line}
-use Rattle.client_core.specs.Records.{Chained, Extends}
+use Rattle.thin_client.specs.Records.{Chained, Extends}
 
 -- ---- what the audit may be asked of
 

@@ -16,10 +16,10 @@ use Rattle.thin_form.specs.declared.outcome.WallEnd.{WallEnd}
 use Rattle.thin_form.specs.declared.outcome.AuditLine.{AuditLine}
 use Rattle.thin_form.specs.declared.outcome.AuditLine.TheVariants as audits
 use Rattle.thin_form.specs.Report.{report_text}
-use Rattle.client_core.specs.declared.side.Took.{Took}
-use Rattle.client_core.specs.Asking.{ClientView}
-use Rattle.client_core.specs.Judging.{texts_of}
-use Rattle.client_core.specs.Records.{acceptance_of}
+use Rattle.thin_client.specs.declared.side.Took.{Took}
+use Rattle.thin_client.specs.Asking.{ClientView}
+use Rattle.thin_client.specs.Judging.{texts_of}
+use Rattle.thin_client.specs.Records.{acceptance_of}
 use Rattle.frient_run.specs.declared.record.ThinTook.{ThinTook}
 use Rattle.frient_run.specs.declared.fate.Refusal.{Refusal}
 use Rattle.frient_run.specs.declared.fate.Refusal.TheVariants as refusals

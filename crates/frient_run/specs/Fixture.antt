@@ -5,7 +5,7 @@ use Rattle.lms_params.specs.Parameters.{ots_row}
 use Rattle.lms_tree.specs.Valid.{Key}
 use Rattle.lms_tree.specs.Signer.{public_of}
 use Rattle.signed_ops.specs.declared.known.Known.{Known}
-use Rattle.client_core.specs.Asking.{ClientView, newcomer}
+use Rattle.thin_client.specs.Asking.{ClientView, newcomer}
 
 abbrev pub users : List ℕ
 users = 1 ∷ 2 ∷ 3 ∷ 4 ∷ 5 ∷ []

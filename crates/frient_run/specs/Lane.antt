@@ -11,14 +11,14 @@ use Rattle.signed_ops.specs.declared.known.Known.{Known}
 use Rattle.wall_law.specs.declared.refusal.LawRefusal.{LawRefusal}
 use Rattle.wall_law.specs.declared.refusal.LawRefusal.TheVariants as laws
 use Rattle.op_types.specs.declared.op.Leaf.{Leaf}
-use Rattle.hall_core.specs.declared.ask.Ask.{Ask}
-use Rattle.hall_core.specs.declared.ask.Ask.TheVariants as asks
-use Rattle.hall_core.specs.declared.ask.Answer.{Answer}
-use Rattle.hall_core.specs.declared.ask.Answer.TheVariants as answers
-use Rattle.hall_core.specs.declared.ask.Cause.{Cause}
-use Rattle.hall_core.specs.declared.ask.Cause.TheVariants.{BadSignature, Unlawful}
-use Rattle.hall_core.specs.Wall.{Hall, answer_to, leaves_after}
-use Rattle.hall_core.specs.Turns.{Called, Turn, turns, play, Legal}
+use Rattle.thin_hall.specs.declared.ask.Ask.{Ask}
+use Rattle.thin_hall.specs.declared.ask.Ask.TheVariants as asks
+use Rattle.thin_hall.specs.declared.ask.Answer.{Answer}
+use Rattle.thin_hall.specs.declared.ask.Answer.TheVariants as answers
+use Rattle.thin_hall.specs.declared.ask.Cause.{Cause}
+use Rattle.thin_hall.specs.declared.ask.Cause.TheVariants.{BadSignature, Unlawful}
+use Rattle.thin_hall.specs.Wall.{Hall, answer_to, leaves_after}
+use Rattle.thin_hall.specs.Turns.{Called, Turn, turns, play, Legal}
 use Rattle.thin_form.specs.declared.thin_script.Command.{Command}
 use Rattle.thin_form.specs.declared.thin_script.Line.{Line}
 use Rattle.thin_form.specs.declared.outcome.Cause.TheVariants as told
@@ -32,10 +32,10 @@ use Rattle.thin_form.specs.declared.messages.Request.TheVariants as requests
 use Rattle.thin_form.specs.declared.messages.Reply.TheVariants as replies
 use Rattle.thin_form.specs.ThinMessages.{IsRequest, IsWhole, cause_detail, request_text, reply_text}
 use Rattle.thin_form.specs.Verbs.{verb_of}
-use Rattle.client_core.specs.Asking.{ClientView, client_view, decline_of, asked, having_asked}
-use Rattle.client_core.specs.declared.client.Client.{Client}
-use Rattle.client_core.specs.Judging.{judged}
-use Rattle.client_core.specs.Hearing.{end_of, shown_of, having_heard}
+use Rattle.thin_client.specs.Asking.{ClientView, client_view, decline_of, asked, having_asked}
+use Rattle.thin_client.specs.declared.client.Client.{Client}
+use Rattle.thin_client.specs.Judging.{judged}
+use Rattle.thin_client.specs.Hearing.{end_of, shown_of, having_heard}
 use Rattle.frient_run.specs.Fixture.{users}
 
 -- ---- commands, and what was heard for them

@@ -4,15 +4,15 @@ use Rattle.std.specs.List.{list_any, AllByRecursion, AllZip}
 use Rattle.op_types.specs.declared.op.Leaf.{Leaf}
 use Rattle.signed_ops.specs.declared.known.Known.{Known}
 use Rattle.signed_ops.specs.Honest.{IsHonest}
-use Rattle.hall_core.specs.Turns.{Called, LegalFrom, turns_from}
+use Rattle.thin_hall.specs.Turns.{Called, LegalFrom, turns_from}
 use Rattle.thin_form.specs.declared.outcome.CommandEnd.{CommandEnd}
 use Rattle.thin_form.specs.declared.outcome.CommandEnd.TheVariants as ends
 use Rattle.thin_form.specs.declared.outcome.Outcome.{Outcome}
-use Rattle.client_core.specs.Asking.{ClientView}
-use Rattle.client_core.specs.declared.side.Side.{Side}
-use Rattle.client_core.specs.declared.judgement.Judgement.{Judgement}
-use Rattle.client_core.specs.Following.{Follows}
-use Rattle.client_core.specs.Hearing.{end_of, side_after}
+use Rattle.thin_client.specs.Asking.{ClientView}
+use Rattle.thin_client.specs.declared.side.Side.{Side}
+use Rattle.thin_client.specs.declared.judgement.Judgement.{Judgement}
+use Rattle.thin_client.specs.Following.{Follows}
+use Rattle.thin_client.specs.Hearing.{end_of, side_after}
 use Rattle.frient_run.specs.Lane.{Heard, Serves, Delivery, dids, exchanges_of}
 
 -- A command failed: its client rejected what was delivered, or nothing was.

@@ -3,12 +3,12 @@ ghost use Rattle.std.specs.List.{AllByRecursion, flat_map, list_any};
 ghost use Rattle.std.specs.Str.{bytes_eq};
 ghost use Rattle.op_types.specs.Spelling.{IsLeaf, IsOp, leaf_text, op_text};
 ghost use Rattle.signed_ops.specs.declared.known.Known.{Known};
-ghost use Rattle.client_core.specs.Asking.{client_view};
+ghost use Rattle.thin_client.specs.Asking.{client_view};
 ghost use Rattle.frient_run.specs.Audit.{audit_of, compared_line, differs, first_difference, records_of, shown_ops};
 ghost use Rattle.frient_run.specs.Auditing.{IsChained, LinksTexts, Says, SignsOps, first_line, lacks, ops_of, signed_texts, texts_difference};
-ghost use Rattle.client_core.specs.Records.{Chained};
+ghost use Rattle.thin_client.specs.Records.{Chained};
 
-use client_core::{Client, Took};
+use thin_client::{Client, Took};
 use fr_bytes::{Bytes, NoMemory, Texts};
 use fr_digest::{Clash, Digester};
 use op_types::{Leaf, Op, op_part, write_op};

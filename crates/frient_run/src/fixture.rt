@@ -1,8 +1,8 @@
 ghost use Rattle.std.specs.Prelude.{◌≡◌, ◌≤◌, ◌∷◌, ◌++◌, [], map, IfOk};
-ghost use Rattle.client_core.specs.Asking.{client_view};
+ghost use Rattle.thin_client.specs.Asking.{client_view};
 ghost use Rattle.frient_run.specs.Fixture.{fixture, id_of, key_for, pair, private_of, start, users};
 
-use client_core::Client;
+use thin_client::Client;
 use fr_bytes::{NoMemory, Sequence};
 use lms_params::{LmsRow, OtsRow, Pair};
 use lms_tree::{MakeRefusal, PublicKey, Signer, UserKeys};

@@ -1,16 +1,16 @@
 ghost use Rattle.std.specs.Prelude.{◌≡◌, ◌≢◌, ◌<◌, ◌≤◌, ◌∷◌, [], length, None, IfOk, OnOk, IfSome};
 ghost use Rattle.fr_bytes.specs.Bytes.{IsBytes};
-ghost use Rattle.client_core.specs.Asking.{IsReady, client_view};
+ghost use Rattle.thin_client.specs.Asking.{IsReady, client_view};
 ghost use Rattle.thin_form.specs.ThinMessages.{request_of, request_text};
 ghost use Rattle.thin_form.specs.ThinScript.{IsThinCommand};
 ghost use Rattle.frient_run.specs.Lane.{Carries, Exchanged, Step, declined_outcome};
 
 use crate::server::answer;
-use client_core::{Asked, Client};
+use thin_client::{Asked, Client};
 use fr_bytes::{Bytes, NoMemory, Sequence};
 use fr_digest::Digester;
 use fr_edges::{CarryEnd, Wire};
-use hall_core::Hall;
+use thin_hall::Hall;
 use op_types::laws;
 use signed_ops::Known;
 use std::alloc::Global;

@@ -1,6 +1,6 @@
 ghost use Rattle.std.specs.Prelude.{◌≡◌, ◌≤◌, ◌<◌, [], ◌^◌, length, map, OnOk};
 ghost use Rattle.std.specs.List.{AllByRecursion};
-ghost use Rattle.client_core.specs.Asking.{IsReady, client_view};
+ghost use Rattle.thin_client.specs.Asking.{IsReady, client_view};
 ghost use Rattle.thin_form.specs.ThinScript.{IsThinCommand, IsThinLine, IsUser};
 ghost use Rattle.frient_run.specs.Audit.{records_of};
 ghost use Rattle.frient_run.specs.Auditing.{SignsOps};
@@ -8,11 +8,11 @@ ghost use Rattle.frient_run.specs.Fixture.{fixture, start, users};
 ghost use Rattle.frient_run.specs.Lane.{LineRun, RunSoFar, next_place, placed, run_state};
 
 use crate::lane::run_command;
-use client_core::Client;
+use thin_client::Client;
 use fr_bytes::NoMemory;
 use fr_digest::Digester;
 use fr_edges::Wire;
-use hall_core::Hall;
+use thin_hall::Hall;
 use signed_ops::Known;
 use std::alloc::Global;
 use thin_form::{Line, Outcome, Place};

@@ -5,7 +5,7 @@ ghost use Rattle.frient_run.specs.Lane.{Answered, Replies, ask_of, law_cause, to
 
 use fr_bytes::{Bytes, NoMemory, ReadRefusal};
 use fr_digest::Digester;
-use hall_core::{Answer, Ask, Cause, Hall};
+use thin_hall::{Answer, Ask, Cause, Hall};
 use op_types::WrittenLeaves;
 use std::alloc::Global;
 use thin_form::{Request, read_request, write_refusal, write_whole};

@@ -1,15 +1,15 @@
 //! The laws of runs over straight wires: no command fails. Each function has an empty body, and its
 //! contract is the law. `d` is any digest.
-ghost use Rattle.client_core.specs.Asking.{ClientView, newcomer};
-ghost use Rattle.client_core.specs.Following.{Follows};
-ghost use Rattle.client_core.specs.Judging.{judged};
-ghost use Rattle.client_core.specs.declared.side.Side.{Side};
+ghost use Rattle.thin_client.specs.Asking.{ClientView, newcomer};
+ghost use Rattle.thin_client.specs.Following.{Follows};
+ghost use Rattle.thin_client.specs.Judging.{judged};
+ghost use Rattle.thin_client.specs.declared.side.Side.{Side};
 ghost use Rattle.fr_edges.specs.Wire.{WireView};
 ghost use Rattle.frient_run.specs.Lane.{Heard, Placed, Replies, RunSoFar, RunState, ask_of, dids, outcomes_of};
 ghost use Rattle.frient_run.specs.Untampered.{IsUntampered, StaysWith, any_failed};
-ghost use Rattle.hall_core.specs.Turns.{Called};
+ghost use Rattle.thin_hall.specs.Turns.{Called};
 ghost use Rattle.signed_ops.specs.Honest.{IsHonest};
-ghost use Rattle.hall_core.specs.Wall.{answer_to, leaves_after};
+ghost use Rattle.thin_hall.specs.Wall.{answer_to, leaves_after};
 ghost use Rattle.op_types.specs.declared.op.Leaf.{Leaf};
 ghost use Rattle.signed_ops.specs.declared.known.Known.{Known};
 ghost use Rattle.std.specs.Prelude.{◌≡◌, ℕ, List, Some, false, true};

@@ -1,7 +1,7 @@
 use Rattle.std.proofs.Common.{◌≡◌, ◌∙◌, sym, map, subst}
 use Rattle.std.proofs.lemmas.Result.{IfOk-weaker}
 use Rattle.thin_form.specs.declared.outcome.AuditLine.{AuditLine}
-use Rattle.client_core.specs.Asking.{client_view}
+use Rattle.thin_client.specs.Asking.{client_view}
 use Rattle.frient_run.specs.Audit.{audit_of, compared_line}
 use Rattle.frient_run.specs.Auditing.{Says}
 use Rattle.frient_run.proofs.AuditLemmas.{line_forged, line_compared, audit-says}

@@ -2,7 +2,7 @@ use Rattle.std.proofs.Common.{◌∙◌, ap, List, ℕ, length, take, arith}
 use Rattle.std.proofs.lemmas.List.{length-map}
 use Rattle.op_types.specs.Spelling.{leaf_text}
 use Rattle.tree_model.specs.History.{root}
-use Rattle.client_core.specs.Judging.{texts_of}
+use Rattle.thin_client.specs.Judging.{texts_of}
 use Rattle.frient_run.proofs.AuditLemmas.{front_root}
 use Rattle.frient_run.proofs.audit.compare.Goals as goal
 

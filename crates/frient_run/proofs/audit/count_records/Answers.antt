@@ -1,7 +1,7 @@
 use Rattle.std.proofs.Common.{◌∙◌, ap, length, map, List, arith}
 use Rattle.std.proofs.lemmas.List.{take_all}
-use Rattle.client_core.specs.declared.client.Client.{Client}
-use Rattle.client_core.specs.Asking.{client_view}
+use Rattle.thin_client.specs.declared.client.Client.{Client}
+use Rattle.thin_client.specs.Asking.{client_view}
 use Rattle.frient_run.specs.Audit.{records_of}
 use Rattle.frient_run.proofs.AuditLemmas.{counted_next, counted_fits}
 use Rattle.frient_run.proofs.audit.count_records.Goals as goal

@@ -1,5 +1,5 @@
 use Rattle.std.proofs.Common.{◌≡◌, map, take, length}
-use Rattle.client_core.specs.Asking.{client_view}
+use Rattle.thin_client.specs.Asking.{client_view}
 use Rattle.frient_run.specs.Audit.{records_of}
 use Rattle.frient_run.proofs.audit.count_records.Given as goal
 

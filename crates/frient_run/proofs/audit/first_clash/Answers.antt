@@ -1,8 +1,8 @@
 use Rattle.std.proofs.Common.{◌∙◌, ap, sym, subst, []}
-use Rattle.client_core.specs.Records.{Chained}
+use Rattle.thin_client.specs.Records.{Chained}
 use Rattle.frient_run.specs.Audit.{first_difference}
 use Rattle.frient_run.specs.Auditing.{IsChained}
-use Rattle.client_core.specs.Asking.{client_view}
+use Rattle.thin_client.specs.Asking.{client_view}
 use Rattle.frient_run.proofs.Searches.{goes_on, stops, is_over, each_next}
 use Rattle.frient_run.proofs.AuditLemmas.{clash_searches}
 use Rattle.frient_run.proofs.audit.first_clash.Goals as goal

@@ -1,6 +1,6 @@
 use Rattle.std.proofs.Common.{◌∙◌, ap, sym, List}
 use Rattle.std.specs.List.{flat_map}
-use Rattle.client_core.specs.declared.side.Took.{Took}
+use Rattle.thin_client.specs.declared.side.Took.{Took}
 use Rattle.frient_run.specs.Audit.{shown_ops}
 use Rattle.frient_run.specs.Auditing.{first_line}
 use Rattle.frient_run.proofs.Searches.{goes_on, stops, is_over}

@@ -1,6 +1,6 @@
 use Rattle.std.proofs.Common.{◌≡◌, map, drop}
 use Rattle.std.specs.List.{flat_map}
-use Rattle.client_core.specs.Asking.{client_view}
+use Rattle.thin_client.specs.Asking.{client_view}
 use Rattle.frient_run.specs.Audit.{records_of, shown_ops}
 use Rattle.frient_run.specs.Auditing.{first_line}
 use Rattle.frient_run.proofs.audit.first_forgery.Given as goal

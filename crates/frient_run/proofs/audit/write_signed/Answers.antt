@@ -1,7 +1,7 @@
 use Rattle.std.proofs.Common.{sym, subst}
 use Rattle.std.specs.List.{AllByRecursion}
 use Rattle.op_types.specs.Spelling.{IsOp}
-use Rattle.client_core.specs.Asking.{client_view}
+use Rattle.thin_client.specs.Asking.{client_view}
 use Rattle.frient_run.specs.Auditing.{SignsOps}
 use Rattle.frient_run.proofs.Searches.{each_next}
 use Rattle.frient_run.proofs.audit.write_signed.Goals as goal

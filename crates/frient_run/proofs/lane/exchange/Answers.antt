@@ -1,9 +1,9 @@
 use Rattle.std.proofs.Common.{◌∙◌, ap, sym, subst, List, ℕ, Option}
 use Rattle.std.specs.Prelude.{IfSome}
 use Rattle.thin_form.specs.ThinMessages.{request_of}
-use Rattle.client_core.specs.Asking.{client_view}
-use Rattle.client_core.specs.Judging.{judged}
-use Rattle.client_core.specs.Hearing.{end_of, shown_of, having_heard}
+use Rattle.thin_client.specs.Asking.{client_view}
+use Rattle.thin_client.specs.Judging.{judged}
+use Rattle.thin_client.specs.Hearing.{end_of, shown_of, having_heard}
 use Rattle.frient_run.specs.Lane.{Answered}
 use Rattle.frient_run.proofs.Commands.{exchanged, same_outcome}
 use Rattle.frient_run.proofs.lane.exchange.Goals as goal

@@ -1,6 +1,6 @@
 use Rattle.std.proofs.Common.{◌∙◌, subst}
 use Rattle.std.proofs.lemmas.Result.{IfOk-weaker}
-use Rattle.client_core.specs.Asking.{Asks, asked, client_view}
+use Rattle.thin_client.specs.Asking.{Asks, asked, client_view}
 use Rattle.frient_run.specs.Lane.{Placed}
 use Rattle.frient_run.proofs.Commands.{declined_step, sent_step, exchanged_for, not_none}
 use Rattle.frient_run.proofs.lane.run_command.Goals as goal

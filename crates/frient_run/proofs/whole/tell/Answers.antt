@@ -1,6 +1,6 @@
 use Rattle.std.proofs.Common.{sym, subst, map}
 use Rattle.std.specs.List.{AllByRecursion}
-use Rattle.client_core.specs.Asking.{client_view}
+use Rattle.thin_client.specs.Asking.{client_view}
 use Rattle.frient_run.specs.Fixture.{fixture}
 use Rattle.frient_run.specs.Auditing.{IsChained}
 use Rattle.frient_run.proofs.whole.tell.Goals as goal

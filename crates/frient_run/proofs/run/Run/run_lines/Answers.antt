@@ -1,6 +1,6 @@
 use Rattle.std.proofs.Common.{◌∙◌, sym, refl, map, arith}
 use Rattle.std.proofs.lemmas.List.{length-map}
-use Rattle.client_core.specs.Asking.{client_view}
+use Rattle.thin_client.specs.Asking.{client_view}
 use Rattle.frient_run.specs.Lane.{run_state}
 use Rattle.frient_run.proofs.Running.{begins, goes_on, is_done, line-at, all_ready, all_sign, records_few, few_fit}
 use Rattle.frient_run.proofs.run.Run.run_lines.Goals as goal

@@ -1,5 +1,0 @@
-use Rattle.client_core.proofs.FollowingLaws.{refusal-heard, refusal-keeps}
-use Rattle.client_core.proofs.following_laws.refusals.Goals as goal
-
-pub returns : goal.returns
-returns c = record { judgement = refusal-heard; keeps = refusal-keeps }

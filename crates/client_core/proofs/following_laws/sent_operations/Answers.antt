@@ -1,5 +1,0 @@
-use Rattle.client_core.proofs.FollowingLaws.{sent-look, sent-append, holds-behind, holds-new}
-use Rattle.client_core.proofs.following_laws.sent_operations.Goals as goal
-
-pub returns : goal.returns
-returns c = record { look = sent-look; append = sent-append; last = holds-behind; new = holds-new }

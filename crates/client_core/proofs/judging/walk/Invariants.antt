@@ -1,5 +1,0 @@
-use Rattle.client_core.proofs.Rows.{Walks}
-use Rattle.client_core.proofs.judging.walk.Given as goal
-
-abbrev pub invariant-loop-i : goal.invariant-loop-i
-invariant-loop-i g l = Walks g.D.Digester.digest_of l.known l.fn.first l.k l.leaves l.state l.i
