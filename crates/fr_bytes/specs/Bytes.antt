@@ -4,10 +4,14 @@ use Rattle.std.specs.Prelude.{ℕ, ◌<◌, List, ◌++◌, length}
 use Rattle.std.proofs.Common.{get_or}
 use Rattle.std.specs.Int.{w32, to_be_bytes}
 
+-- a byte list
+abbrev pub Text : Type 0
+Text = List ℕ
+
 -- each element is a byte
-abbrev pub IsBytes : List ℕ → Type 0
+abbrev pub IsBytes : Text → Type 0
 IsBytes bytes = (i : ℕ) → get_or bytes i 0 < 256
 
 -- a counted byte list: four bytes of length, then that many bytes
-abbrev pub counted : List ℕ → List ℕ
+abbrev pub counted : Text → Text
 counted bytes = to_be_bytes w32 (length bytes) ++ bytes

@@ -1,9 +1,9 @@
-ghost use Rattle.std.specs.Prelude.{◌≡◌, ◌≢◌, ◌++◌, ◌∷◌, [], ◌<◌, length, Err, IfOk, OnOk, OnErr, IsErr, ◌↔◌};
+ghost use Rattle.std.specs.Prelude.{◌≡◌, ◌++◌, ◌∷◌, [], ◌<◌, length, IfOk, OnOk, OnErr, IsErr, ◌↔◌};
 ghost use Rattle.std.specs.Int.{w16, w32, w64, to_be_bytes};
-ghost use Rattle.fr_bytes.specs.Reading.{Gives, Moves, byte_at, piece_at, number_at, counted_at};
-ghost use Rattle.fr_bytes.specs.Parts.{byte_within, number_within};
+ghost use Rattle.fr_bytes.specs.Reading.{Moves, byte_at, piece_at, number_at, counted_at};
+ghost use Rattle.fr_bytes.specs.Parts.{byte_within_at, number_within_at};
 
-use super::refusals::{ReadRefusal, TooFew};
+use super::refusals::{OutsideRange, TooFew};
 use std::marker::Model;
 
 /// A place in a list of bytes, from which numbers and pieces are read one after the other.
@@ -115,52 +115,47 @@ impl<'a> Cur<'a> {
         taken
     }
 
-    /// The next byte, from `low` to `high`. `NotForm` comes exactly where it is another or none is left.
-    #[tactic(auto, unfolding(crate::specs::Parts::byte_within))]
-    pub fn u8_within(&mut self, low: u8, high: u8) -> Result<u8, ReadRefusal>
-        ensures stays { OnErr result (self.new ≡ self.old) }
-        ensures no_memory { result ≢ Err ReadRefusal.NoMemory }
-        ensures reads { Gives (λ x. x) result self.new (byte_within low high self.old) }
+    /// The next byte, from `low` to `high`. `OutsideRange` comes exactly where it is another or none is
+    /// left.
+    #[tactic(auto, unfolding(crate::specs::Parts::byte_within_at))]
+    pub fn u8_within(&mut self, low: u8, high: u8) -> Result<u8, OutsideRange>
+        ensures reads { Moves (λ x. x) result self.old self.new (byte_within_at low high self.old) }
     {
         let before = self.rest;
         let x = self.u8()?;
         if x < low || high < x {
             self.rest = before;
-            return Err(ReadRefusal::NotForm);
+            return Err(OutsideRange);
         }
         Ok(x)
     }
 
-    /// The big-endian number of the next four bytes, from `low` to `high`. `NotForm` comes exactly where
-    /// it is another or fewer bytes are left.
-    #[tactic(auto, unfolding(crate::specs::Parts::number_within))]
-    pub fn u32_within(&mut self, low: u32, high: u32) -> Result<u32, ReadRefusal>
-        ensures stays { OnErr result (self.new ≡ self.old) }
-        ensures no_memory { result ≢ Err ReadRefusal.NoMemory }
-        ensures reads { Gives (λ x. x) result self.new (number_within w32 low high self.old) }
+    /// The big-endian number of the next four bytes, from `low` to `high`. `OutsideRange` comes exactly
+    /// where it is another or fewer bytes are left.
+    #[tactic(auto, unfolding(crate::specs::Parts::number_within_at))]
+    pub fn u32_within(&mut self, low: u32, high: u32) -> Result<u32, OutsideRange>
+        ensures reads { Moves (λ x. x) result self.old self.new (number_within_at w32 low high self.old) }
     {
         let before = self.rest;
         let x = self.u32()?;
         if x < low || high < x {
             self.rest = before;
-            return Err(ReadRefusal::NotForm);
+            return Err(OutsideRange);
         }
         Ok(x)
     }
 
-    /// The big-endian number of the next eight bytes, from `low` to `high`. `NotForm` comes exactly where
-    /// it is another or fewer bytes are left.
-    #[tactic(auto, unfolding(crate::specs::Parts::number_within))]
-    pub fn u64_within(&mut self, low: u64, high: u64) -> Result<u64, ReadRefusal>
-        ensures stays { OnErr result (self.new ≡ self.old) }
-        ensures no_memory { result ≢ Err ReadRefusal.NoMemory }
-        ensures reads { Gives (λ x. x) result self.new (number_within w64 low high self.old) }
+    /// The big-endian number of the next eight bytes, from `low` to `high`. `OutsideRange` comes exactly
+    /// where it is another or fewer bytes are left.
+    #[tactic(auto, unfolding(crate::specs::Parts::number_within_at))]
+    pub fn u64_within(&mut self, low: u64, high: u64) -> Result<u64, OutsideRange>
+        ensures reads { Moves (λ x. x) result self.old self.new (number_within_at w64 low high self.old) }
     {
         let before = self.rest;
         let x = self.u64()?;
         if x < low || high < x {
             self.rest = before;
-            return Err(ReadRefusal::NotForm);
+            return Err(OutsideRange);
         }
         Ok(x)
     }

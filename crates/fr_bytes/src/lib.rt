@@ -10,7 +10,7 @@ mod sequence;
 
 pub use cur::Cur;
 pub use put::{put_bytes, put_counted, put_u8, put_u16, put_u32, put_u64};
-pub use refusals::{NoMemory, ReadRefusal, TooFew};
+pub use refusals::{NoMemory, OutsideRange, ReadRefusal, TooFew};
 pub use sequence::{Bytes, Sequence, Texts};
 
 #[cfg(test)]

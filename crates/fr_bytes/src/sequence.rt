@@ -1,6 +1,7 @@
 ghost use Rattle.std.specs.Prelude.{◌≡◌, ◌++◌, ◌∷◌, [], length, vec_len, IfOk, OnOk, OnErr};
 
 use super::refusals::NoMemory;
+use std::alloc::Global;
 use std::marker::Model;
 
 /// A list of values, which contracts see as a list and nothing more.
@@ -51,6 +52,11 @@ impl<T> Sequence<T> {
         self.items
     }
 
+    /// The allocator that the list keeps.
+    pub fn allocator(&self) -> Global {
+        *self.items.allocator()
+    }
+
     /// How many values there are.
     pub fn len(&self) -> usize
         ensures { result ≡ length self.now }
@@ -59,12 +65,13 @@ impl<T> Sequence<T> {
     }
 }
 
-impl Sequence<u8> {
-    /// The same bytes, in memory of the same allocator.
-    pub fn copy(&self) -> Result<Bytes, NoMemory>
-        ensures { IfOk result (λ b. b ≡ self.now) }
+impl<T: Copy> Sequence<T> {
+    /// The same values, in memory of the same allocator.
+    pub fn copy(&self) -> Result<Sequence<T>, NoMemory>
+        ensures { IfOk result (λ same. same ≡ self.now) }
     {
-        Ok(Sequence::of(self.items.clone()?))
+        let alloc = *self.items.allocator();
+        Ok(Sequence::of(Vec::from_slice(alloc, self.items.as_slice())?))
     }
 }
 
