@@ -70,7 +70,7 @@ fn ran<D: Digester, W: Wire>(
     let mut run = Run {
         clients: begun.clients,
         outcomes: Vec::new(alloc),
-        hall: Hall::make(alloc, known.copy(alloc)?)?,
+        hall: Hall::make(alloc, known.copy()?)?,
     };
     run.run_lines(alloc, &known, wire, lines)?;
     Ok(run)

@@ -12,7 +12,8 @@ use Rattle.op_types.specs.declared.kind.Kind.TheVariants.{Post, Admit, Remove}
 use Rattle.op_types.specs.declared.view.View.{View}
 use Rattle.op_types.specs.declared.op.Op.{Op}
 use Rattle.op_types.specs.declared.op.Leaf.{Leaf}
-use Rattle.op_types.specs.Spelling.{IsDig, IsWrap, wrap_text, AreWraps, wraps_text, IsKind, kind_text, no_root, is_signed, IsSigned, signed_text, IsView, view_text, IsOp, unsigned_text, op_text, IsLeaf, leaf_text, SpellsLeaf}
+use Rattle.op_types.specs.declared.tags.TheConstants.{POST_TAG, ADMIT_TAG, REMOVE_TAG}
+use Rattle.op_types.specs.Spelling.{IsDig, IsWrap, wrap_text, AreWraps, wraps_text, Admission, IsAdmission, admission_text, Removal, IsRemoval, removal_text, IsKind, kind_text, no_root, is_signed, IsSigned, signed_text, IsView, view_text, IsOp, unsigned_text, op_text, IsLeaf, leaf_text, SpellsLeaf}
 
 digest_limited : (x : List ℕ) → IsDig x → IsLimited 32 x
 digest_limited x h = (omega (arith, h.0), h.1)
@@ -31,18 +32,26 @@ wraps_limited : (ws : List Wrap) → AreWraps ws → IsLimited 481 (wraps_text w
 wraps_limited ws h = limited_one 480 (length ws) (flat_map wrap_text ws) (omega (arith, h.0.1))
     (limited_wider (40 * length ws) 480 (flat_map wrap_text ws) (omega (arith, h.0.1)) (wrap_texts_limited ws h.1))
 
+admission_limited : (a : Admission) → IsAdmission a → IsLimited 487 (admission_text a)
+admission_limited a h =
+    limited_joined 4 483 (to_be_bytes w32 a.user) (a.role ∷ (a.slot ∷ wraps_text a.wraps)) (limited_number32 a.user)
+    (limited_one 482 a.role (a.slot ∷ wraps_text a.wraps) h.role.0
+    (limited_one 481 a.slot (wraps_text a.wraps) (omega (arith, h.slot.1)) (wraps_limited a.wraps h.wraps)))
+
+removal_limited : (r : Removal) → IsRemoval r → IsLimited 486 (removal_text r)
+removal_limited r h =
+    limited_joined 4 482 (to_be_bytes w32 r.user) (r.slot ∷ wraps_text r.wraps) (limited_number32 r.user)
+    (limited_one 481 r.slot (wraps_text r.wraps) (omega (arith, h.slot.1)) (wraps_limited r.wraps h.wraps))
+
+-- a post is the longest
 kind_limited : (kind : Kind) → IsKind kind → IsLimited 1029 (kind_text kind)
-kind_limited (Post body) h = limited_one 1028 0 (counted body) (omega arith) (limited_counted 1024 body h)
+kind_limited (Post body) h = limited_one 1028 POST_TAG (counted body) (omega arith) (limited_counted 1024 body h)
 kind_limited (Admit user role slot wraps) h =
-    limited_wider 488 1029 (kind_text (Admit user role slot wraps)) (omega arith)
-    (limited_one 487 1 (to_be_bytes w32 user ++ (role ∷ (slot ∷ wraps_text wraps))) (omega arith)
-    (limited_joined 4 483 (to_be_bytes w32 user) (role ∷ (slot ∷ wraps_text wraps)) (limited_number32 user)
-    (limited_one 482 role (slot ∷ wraps_text wraps) (omega (arith, h.1.0.1)) (limited_one 481 slot (wraps_text wraps) (omega (arith, h.1.1.0.1)) (wraps_limited wraps h.1.1.1)))))
+    let a : Admission = record { user = user; role = role; slot = slot; wraps = wraps } in
+    limited_wider 488 1029 (ADMIT_TAG ∷ admission_text a) (omega arith) (limited_one 487 ADMIT_TAG (admission_text a) (omega arith) (admission_limited a h))
 kind_limited (Remove user slot wraps) h =
-    limited_wider 487 1029 (kind_text (Remove user slot wraps)) (omega arith)
-    (limited_one 486 2 (to_be_bytes w32 user ++ (slot ∷ wraps_text wraps)) (omega arith)
-    (limited_joined 4 482 (to_be_bytes w32 user) (slot ∷ wraps_text wraps) (limited_number32 user)
-    (limited_one 481 slot (wraps_text wraps) (omega (arith, h.1.0.1)) (wraps_limited wraps h.1.1))))
+    let r : Removal = record { user = user; slot = slot; wraps = wraps } in
+    limited_wider 487 1029 (REMOVE_TAG ∷ removal_text r) (omega arith) (limited_one 486 REMOVE_TAG (removal_text r) (omega arith) (removal_limited r h))
 
 signed_limited : (p : List ℕ × List ℕ) → IsSigned p → IsLimited 9360 (signed_text p)
 signed_limited p h = limited_joined 32 9328 p.0 (counted p.1) (digest_limited p.0 h.0) (limited_counted 9324 p.1 h.1)

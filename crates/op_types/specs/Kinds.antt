@@ -4,16 +4,16 @@ use Rattle.op_types.specs.declared.kind.Kind.{Kind}
 use Rattle.op_types.specs.declared.kind.Kind.TheVariants.{Post, Admit, Remove}
 
 -- whether it changes the access list
-abbrev pub is_change_lem : Kind → Bool
-is_change_lem (Post body) = false
-is_change_lem (Admit user role slot wraps) = true
-is_change_lem (Remove user slot wraps) = true
+abbrev pub is_change : Kind → Bool
+is_change (Post body) = false
+is_change (Admit user role slot wraps) = true
+is_change (Remove user slot wraps) = true
 
 -- the user whom it adds or takes away
-abbrev pub changed_user_lem : Kind → Option ℕ
-changed_user_lem (Post body) = None
-changed_user_lem (Admit user role slot wraps) = Some user
-changed_user_lem (Remove user slot wraps) = Some user
+abbrev pub changed_user : Kind → Option ℕ
+changed_user (Post body) = None
+changed_user (Admit user role slot wraps) = Some user
+changed_user (Remove user slot wraps) = Some user
 
 -- the body of a post
 abbrev pub posted_body : Kind → Option (List ℕ)

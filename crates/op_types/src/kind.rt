@@ -48,12 +48,12 @@ pub enum Kind {
 }
 
 impl Kind {
-    ghost use Rattle.op_types.specs.Kinds.{is_change_lem, changed_user_lem, posted_body};
+    ghost use Rattle.op_types.specs.Kinds.{is_change, changed_user, posted_body};
     ghost use Rattle.std.specs.Prelude.{option_map};
 
     /// Whether this changes the access list.
     pub fn is_change(&self) -> bool
-        ensures { result ≡ is_change_lem self.now }
+        ensures { result ≡ is_change self.now }
     {
         match self {
             Kind::Post { .. } => false,
@@ -63,7 +63,7 @@ impl Kind {
 
     /// The user whom this adds to the access list or takes from it.
     pub fn changed_user(&self) -> Option<u32>
-        ensures { result ≡ changed_user_lem self.now }
+        ensures { result ≡ changed_user self.now }
     {
         match self {
             Kind::Post { .. } => None,

@@ -9,6 +9,7 @@ mod messages;
 mod op;
 mod reading;
 mod roles;
+pub mod tags;
 #[cfg(test)]
 mod tests;
 mod view;
@@ -19,7 +20,7 @@ pub use kind::{Kind, Wrap, Wraps};
 pub use messages::{VIEW_MESSAGE_BYTES, op_message, view_message};
 pub use op::{Changes, Leaf, Leaves, Op};
 pub use reading::{read_leaf, read_op};
-pub use roles::{OWNER, READER, WRITER, may_write};
+pub use roles::{OWNER, READER, WRITER, may_be_given, may_write};
 pub use view::View;
 pub use writing::{write_leaf, write_op};
 pub use written::{WrittenLeaves, op_part};

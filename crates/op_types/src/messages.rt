@@ -2,16 +2,11 @@ ghost use Rattle.std.specs.Prelude.{◌≡◌, ◌+◌, ◌≤◌, ◌++◌, tak
 ghost use Rattle.op_types.specs.Spelling.{IsOp, op_signed, view_signed};
 
 use crate::op::Op;
+use crate::tags::{OP_MESSAGE_TAG, VIEW_MESSAGE_TAG};
 use crate::writing::put_unsigned;
 use fr_bytes::{Bytes, NoMemory, put_u8};
 use fr_digest::Dig;
 use std::alloc::Global;
-
-/// The tag of a view's message.
-const VIEW_TAG: u8 = 0x10;
-
-/// The tag of an operation's message.
-const OP_TAG: u8 = 0x11;
 
 /// How many bytes a view's message has: a tag, the wall, the size and the root.
 pub const VIEW_MESSAGE_BYTES: usize = 45;
@@ -23,7 +18,7 @@ pub fn op_message(alloc: Global, op: &Op) -> Result<Bytes, NoMemory>
     ensures { IfOk result (λ bytes. bytes ≡ op_signed op.now) }
 {
     let mut out = Vec::new(alloc);
-    put_u8(&mut out, OP_TAG)?;
+    put_u8(&mut out, OP_MESSAGE_TAG)?;
     put_unsigned(&mut out, op)?;
     Ok(Bytes::of(out))
 }
@@ -44,7 +39,7 @@ pub fn view_message(wall: u32, size: u64, root: &Dig) -> [u8; VIEW_MESSAGE_BYTES
     ensures { result ≡ view_signed wall size root.now }
 {
     let mut message = [0; VIEW_MESSAGE_BYTES];
-    message[0] = VIEW_TAG;
+    message[0] = VIEW_MESSAGE_TAG;
     place(&mut message, 1, &wall.to_be_bytes());
     place(&mut message, 5, &size.to_be_bytes());
     place(&mut message, 13, root);

@@ -1,13 +1,15 @@
 ghost use Rattle.std.specs.Prelude.{◌≡◌, ℕ, List, Option, Some, IfOk, IsErrOf, length};
 ghost use Rattle.fr_bytes.specs.Reading.{Gives, GivesAll, piece_at, times_at, all_of};
-ghost use Rattle.fr_bytes.specs.Parts.{limited_at};
+ghost use Rattle.fr_bytes.specs.Parts.{byte_that_at, limited_at};
+ghost use Rattle.op_types.specs.Roles.{may_be_given};
 ghost use Rattle.op_types.specs.Spelling.{no_root, SpellsOp, SpellsLeaf};
-ghost use Rattle.op_types.specs.Reading.{wrap_at, wraps_at, post_at, admit_at, remove_at, kind_of, kind_at, signature_at, signed_at, view_at, op_at, leaf_at};
+ghost use Rattle.op_types.specs.Reading.{wrap_at, wraps_at, post_at, admit_at, remove_at, kind_behind_at, kind_at, signature_at, signed_at, view_at, op_at, leaf_at};
 
 use crate::kind::{Kind, Wrap, Wraps};
 use crate::limits::*;
 use crate::op::{Leaf, Op};
-use crate::roles::{READER, WRITER};
+use crate::roles::may_be_given;
+use crate::tags::{ADMIT_TAG, POST_TAG, REMOVE_TAG};
 use crate::view::View;
 use fr_bytes::{Bytes, Cur, ReadRefusal, Sequence};
 use fr_digest::Dig;
@@ -33,7 +35,7 @@ fn dig_at(cur: &mut Cur<'_>) -> Result<Dig, ReadRefusal>
 }
 
 #[tactic(auto, unfolding(fr_bytes::specs::Parts::limited_at))]
-fn limited_of(alloc: Global, cur: &mut Cur<'_>, limit: u32) -> Result<Bytes, ReadRefusal>
+fn limited_at(alloc: Global, cur: &mut Cur<'_>, limit: u32) -> Result<Bytes, ReadRefusal>
     ensures { Gives (λ x. x) result cur.new (limited_at limit cur.old) }
 {
     let bytes = cur.counted()?;
@@ -44,16 +46,16 @@ fn limited_of(alloc: Global, cur: &mut Cur<'_>, limit: u32) -> Result<Bytes, Rea
 }
 
 #[tactic(auto, unfolding(crate::specs::Reading::signature_at))]
-fn signature_of(alloc: Global, cur: &mut Cur<'_>) -> Result<Bytes, ReadRefusal>
+fn signature_at(alloc: Global, cur: &mut Cur<'_>) -> Result<Bytes, ReadRefusal>
     ensures { Gives (λ x. x) result cur.new (signature_at cur.old) }
 {
-    limited_of(alloc, cur, SIGNATURE_BYTES_MAX)
+    limited_at(alloc, cur, SIGNATURE_BYTES_MAX)
 }
 
 // ---- kinds
 
 #[tactic(auto, unfolding(crate::specs::Reading::wrap_at))]
-fn wrap_of(cur: &mut Cur<'_>) -> Result<Wrap, ReadRefusal>
+fn wrap_at(cur: &mut Cur<'_>) -> Result<Wrap, ReadRefusal>
     ensures { Gives (λ x. x) result cur.new (wrap_at cur.old) }
 {
     let child = cur.u32_within(CHILD_MIN, CHILD_MAX)?;
@@ -72,14 +74,14 @@ fn wraps_times(alloc: Global, cur: &mut Cur<'_>, count: u8) -> Result<Vec<Wrap>,
 {
     let mut wraps = Vec::new(alloc);
     for _ in 0..count {
-        let wrap = wrap_of(cur)?;
+        let wrap = wrap_at(cur)?;
         wraps.push(wrap)?;
     }
     Ok(wraps)
 }
 
 #[tactic(auto, unfolding(crate::specs::Reading::wraps_at))]
-fn wraps_of(alloc: Global, cur: &mut Cur<'_>) -> Result<Wraps, ReadRefusal>
+fn wraps_at(alloc: Global, cur: &mut Cur<'_>) -> Result<Wraps, ReadRefusal>
     ensures { Gives (λ x. x) result cur.new (wraps_at cur.old) }
 {
     let count = cur.u8_within(0, WRAPS_MAX)?;
@@ -87,22 +89,34 @@ fn wraps_of(alloc: Global, cur: &mut Cur<'_>) -> Result<Wraps, ReadRefusal>
     Ok(Sequence::of(wraps))
 }
 
+/// A role that an admission may give.
+#[tactic(auto, unfolding(fr_bytes::specs::Parts::byte_that_at))]
+fn role_at(cur: &mut Cur<'_>) -> Result<u8, ReadRefusal>
+    ensures { Gives (λ x. x) result cur.new (byte_that_at may_be_given cur.old) }
+{
+    let role = cur.u8()?;
+    if !may_be_given(role) {
+        return Err(ReadRefusal::NotForm);
+    }
+    Ok(role)
+}
+
 #[tactic(auto, unfolding(crate::specs::Reading::post_at))]
-fn post_of(alloc: Global, cur: &mut Cur<'_>) -> Result<Kind, ReadRefusal>
+fn post_at(alloc: Global, cur: &mut Cur<'_>) -> Result<Kind, ReadRefusal>
     ensures { Gives (λ x. x) result cur.new (post_at cur.old) }
 {
-    let body = limited_of(alloc, cur, BODY_BYTES_MAX)?;
+    let body = limited_at(alloc, cur, BODY_BYTES_MAX)?;
     Ok(Kind::Post { body })
 }
 
 #[tactic(auto, unfolding(crate::specs::Reading::admit_at))]
-fn admit_of(alloc: Global, cur: &mut Cur<'_>) -> Result<Kind, ReadRefusal>
+fn admit_at(alloc: Global, cur: &mut Cur<'_>) -> Result<Kind, ReadRefusal>
     ensures { Gives (λ x. x) result cur.new (admit_at cur.old) }
 {
     let user = cur.u32()?;
-    let role = cur.u8_within(READER, WRITER)?;
+    let role = role_at(cur)?;
     let slot = cur.u8_within(0, SLOT_MAX)?;
-    let wraps = wraps_of(alloc, cur)?;
+    let wraps = wraps_at(alloc, cur)?;
     Ok(Kind::Admit {
         user,
         role,
@@ -112,34 +126,34 @@ fn admit_of(alloc: Global, cur: &mut Cur<'_>) -> Result<Kind, ReadRefusal>
 }
 
 #[tactic(auto, unfolding(crate::specs::Reading::remove_at))]
-fn remove_of(alloc: Global, cur: &mut Cur<'_>) -> Result<Kind, ReadRefusal>
+fn remove_at(alloc: Global, cur: &mut Cur<'_>) -> Result<Kind, ReadRefusal>
     ensures { Gives (λ x. x) result cur.new (remove_at cur.old) }
 {
     let user = cur.u32()?;
     let slot = cur.u8_within(0, SLOT_MAX)?;
-    let wraps = wraps_of(alloc, cur)?;
+    let wraps = wraps_at(alloc, cur)?;
     Ok(Kind::Remove { user, slot, wraps })
 }
 
 /// What follows a kind's tag.
-#[tactic(auto, unfolding(crate::specs::Reading::kind_of))]
-fn kind_behind(alloc: Global, cur: &mut Cur<'_>, tag: u8) -> Result<Kind, ReadRefusal>
-    ensures { Gives (λ x. x) result cur.new (kind_of tag cur.old) }
+#[tactic(auto, unfolding(crate::specs::Reading::kind_behind_at))]
+fn kind_behind_at(alloc: Global, cur: &mut Cur<'_>, tag: u8) -> Result<Kind, ReadRefusal>
+    ensures { Gives (λ x. x) result cur.new (kind_behind_at tag cur.old) }
 {
     match tag {
-        0 => post_of(alloc, cur),
-        1 => admit_of(alloc, cur),
-        2 => remove_of(alloc, cur),
+        POST_TAG => post_at(alloc, cur),
+        ADMIT_TAG => admit_at(alloc, cur),
+        REMOVE_TAG => remove_at(alloc, cur),
         _ => Err(ReadRefusal::NotForm),
     }
 }
 
 #[tactic(auto, unfolding(crate::specs::Reading::kind_at))]
-fn kind_at_front(alloc: Global, cur: &mut Cur<'_>) -> Result<Kind, ReadRefusal>
+fn kind_at(alloc: Global, cur: &mut Cur<'_>) -> Result<Kind, ReadRefusal>
     ensures { Gives (λ x. x) result cur.new (kind_at cur.old) }
 {
     let tag = cur.u8()?;
-    let kind = kind_behind(alloc, cur, tag)?;
+    let kind = kind_behind_at(alloc, cur, tag)?;
     Ok(kind)
 }
 
@@ -155,23 +169,23 @@ pub(crate) fn zero_root() -> Dig
 
 /// The root and the signature of a view of this size.
 #[tactic(auto, unfolding(crate::specs::Reading::signed_at))]
-fn signed_of(alloc: Global, cur: &mut Cur<'_>, size: u64) -> Result<(Dig, Bytes), ReadRefusal>
+fn signed_at(alloc: Global, cur: &mut Cur<'_>, size: u64) -> Result<(Dig, Bytes), ReadRefusal>
     ensures { Gives (λ x. (x.0, x.1)) result cur.new (signed_at size cur.old) }
 {
     if size == 0 {
         return Ok((zero_root(), Bytes::of(Vec::new(alloc))));
     }
     let root = dig_at(cur)?;
-    let sig = signature_of(alloc, cur)?;
+    let sig = signature_at(alloc, cur)?;
     Ok((root, sig))
 }
 
 #[tactic(auto, unfolding(crate::specs::Reading::view_at))]
-fn view_of(alloc: Global, cur: &mut Cur<'_>, wall: u32) -> Result<View, ReadRefusal>
+fn view_at(alloc: Global, cur: &mut Cur<'_>, wall: u32) -> Result<View, ReadRefusal>
     ensures { Gives (λ x. x) result cur.new (view_at wall cur.old) }
 {
     let size = cur.u64_within(0, VIEW_SIZE_MAX)?;
-    let (root, sig) = signed_of(alloc, cur, size)?;
+    let (root, sig) = signed_at(alloc, cur, size)?;
     Ok(View {
         wall,
         size,
@@ -181,16 +195,16 @@ fn view_of(alloc: Global, cur: &mut Cur<'_>, wall: u32) -> Result<View, ReadRefu
 }
 
 #[tactic(auto, unfolding(crate::specs::Reading::op_at))]
-fn op_of(alloc: Global, cur: &mut Cur<'_>) -> Result<Op, ReadRefusal>
+fn op_at(alloc: Global, cur: &mut Cur<'_>) -> Result<Op, ReadRefusal>
     ensures { Gives (λ x. x) result cur.new (op_at cur.old) }
 {
     let wall = cur.u32()?;
     let author = cur.u32()?;
     let seq = cur.u32_within(0, SEQ_MAX)?;
     let epoch = cur.u64()?;
-    let view = view_of(alloc, cur, wall)?;
-    let kind = kind_at_front(alloc, cur)?;
-    let sig = signature_of(alloc, cur)?;
+    let view = view_at(alloc, cur, wall)?;
+    let kind = kind_at(alloc, cur)?;
+    let sig = signature_at(alloc, cur)?;
     Ok(Op {
         wall,
         author,
@@ -203,12 +217,12 @@ fn op_of(alloc: Global, cur: &mut Cur<'_>) -> Result<Op, ReadRefusal>
 }
 
 #[tactic(auto, unfolding(crate::specs::Reading::leaf_at))]
-fn leaf_of(alloc: Global, cur: &mut Cur<'_>) -> Result<Leaf, ReadRefusal>
+fn leaf_at(alloc: Global, cur: &mut Cur<'_>) -> Result<Leaf, ReadRefusal>
     ensures { Gives (λ x. x) result cur.new (leaf_at cur.old) }
 {
     let after = dig_at(cur)?;
     let epoch = cur.u64()?;
-    let op = op_of(alloc, cur)?;
+    let op = op_at(alloc, cur)?;
     Ok(Leaf { after, epoch, op })
 }
 
@@ -216,7 +230,7 @@ fn whole_op(alloc: Global, bytes: &[u8]) -> Result<Op, ReadRefusal>
     ensures { GivesAll (λ x. x) result (all_of op_at bytes.now) }
 {
     let mut cur = Cur::new(bytes);
-    let op = op_of(alloc, &mut cur)?;
+    let op = op_at(alloc, &mut cur)?;
     if cur.left() != 0 {
         return Err(ReadRefusal::NotForm);
     }
@@ -227,7 +241,7 @@ fn whole_leaf(alloc: Global, bytes: &[u8]) -> Result<Leaf, ReadRefusal>
     ensures { GivesAll (λ x. x) result (all_of leaf_at bytes.now) }
 {
     let mut cur = Cur::new(bytes);
-    let leaf = leaf_of(alloc, &mut cur)?;
+    let leaf = leaf_at(alloc, &mut cur)?;
     if cur.left() > 0 {
         return Err(ReadRefusal::NotForm);
     }

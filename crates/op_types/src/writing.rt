@@ -3,6 +3,7 @@ ghost use Rattle.op_types.specs.Spelling.{IsKind, IsView, IsOp, IsLeaf, AreWraps
 
 use crate::kind::{Kind, Wrap, Wraps};
 use crate::op::{Leaf, Op};
+use crate::tags::{ADMIT_TAG, POST_TAG, REMOVE_TAG};
 use crate::view::View;
 use fr_bytes::{Bytes, NoMemory, put_bytes, put_counted, put_u8, put_u32, put_u64};
 use std::alloc::Global;
@@ -32,7 +33,7 @@ fn put_kind(out: &mut Vec<u8>, kind: &Kind) -> Result<(), NoMemory>
 {
     match kind {
         Kind::Post { body } => {
-            put_u8(out, 0)?;
+            put_u8(out, POST_TAG)?;
             put_counted(out, body.as_slice())
         }
         Kind::Admit {
@@ -41,14 +42,14 @@ fn put_kind(out: &mut Vec<u8>, kind: &Kind) -> Result<(), NoMemory>
             slot,
             wraps,
         } => {
-            put_u8(out, 1)?;
+            put_u8(out, ADMIT_TAG)?;
             put_u32(out, *user)?;
             put_u8(out, *role)?;
             put_u8(out, *slot)?;
             put_wraps(out, wraps)
         }
         Kind::Remove { user, slot, wraps } => {
-            put_u8(out, 2)?;
+            put_u8(out, REMOVE_TAG)?;
             put_u32(out, *user)?;
             put_u8(out, *slot)?;
             put_wraps(out, wraps)

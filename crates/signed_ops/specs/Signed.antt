@@ -33,7 +33,7 @@ pub record IsAuthorSigned (keys : List (ℕ × Key)) (op : Op) : Type 0 where
 
 -- the operation with a signature in place of its own
 abbrev pub with_sig : Op → List ℕ → Op
-with_sig op sig = record { wall = op.wall; author = op.author; seq = op.seq; epoch = op.epoch; view = op.view; kind = op.kind; sig = sig }
+with_sig op sig = record op { sig = sig }
 
 -- the operation as a signer signs it next
 unfoldable pub signed_by : Signing → Op → Op
@@ -41,4 +41,4 @@ signed_by s op = with_sig op (signature_at s.private s.id s.pair s.used (op_sign
 
 -- the signer afterwards
 abbrev pub once_more : Signing → Signing
-once_more s = record { private = s.private; id = s.id; pair = s.pair; used = s.used + 1 }
+once_more s = record s { used = s.used + 1 }

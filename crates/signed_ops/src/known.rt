@@ -1,8 +1,7 @@
 ghost use Rattle.std.specs.Prelude.{◌≡◌, IfOk};
 
-use fr_bytes::{NoMemory, Sequence};
+use fr_bytes::NoMemory;
 use lms_tree::UserKeys;
-use std::alloc::Global;
 
 /// What everybody knows of a wall.
 #[derive(Debug, Drop)]
@@ -16,14 +15,14 @@ pub struct Known {
 }
 
 impl Known {
-    /// The same, in memory of `alloc`.
-    pub fn copy(&self, alloc: Global) -> Result<Known, NoMemory>
+    /// The same, in memory of the same allocator.
+    pub fn copy(&self) -> Result<Known, NoMemory>
         ensures { IfOk result (λ k. k ≡ self.now) }
     {
         Ok(Known {
             wall: self.wall,
             owner: self.owner,
-            keys: Sequence::of(Vec::from_slice(alloc, self.keys.as_slice())?),
+            keys: self.keys.copy()?,
         })
     }
 }

@@ -5,7 +5,7 @@ use Rattle.std.specs.Option.{option_or}
 use Rattle.std.proofs.lemmas.Bool.{ltb-false}
 use Rattle.std.proofs.lemmas.List.{drop_more, drop-map, take-append-drop, append-nil, nil_from_length, length-drop, take_more, take_all}
 use Rattle.op_types.specs.declared.op.Leaf.{Leaf}
-use Rattle.op_types.specs.Kinds.{is_change_lem}
+use Rattle.op_types.specs.Kinds.{is_change}
 use Rattle.op_types.specs.Spelling.{IsLeaf, leaf_text}
 use Rattle.op_types.proofs.LeafTexts.{op_behind}
 use Rattle.tree_model.specs.AccessList.{IsRising}
@@ -80,7 +80,7 @@ epoch_after-most epoch false = omega arith
 pub goes_on : (d : List ℕ → List ℕ) (known : Known) (first : State) (k : ℕ) (leaves : List Leaf) (state next : State) (i : ℕ) (leaf : Leaf) → Walks d known first k leaves state i → i < length leaves → leaf ≡ get_or leaves i leaf → position_verdict d known state (k + i) leaf ≡ None → next ≡ after state leaf.op → IsRising next.entries → Walks d known first k leaves next (i + 1)
 goes_on d known first k leaves state next i leaf h lt e none step rising =
     let place : k + i + 1 ≡ k + (i + 1) = omega arith in
-    let most = epoch_after-most state.epoch (is_change_lem leaf.op.kind) in
+    let most = epoch_after-most state.epoch (is_change leaf.op.kind) in
     record {
       reached = step ∙ ap (λ (x : State). after x leaf.op) h.reached ∙ sym (states-next first leaves i leaf lt e);
       rising = rising;

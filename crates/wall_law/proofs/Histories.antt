@@ -5,7 +5,7 @@ use Rattle.std.proofs.lemmas.Bool.{ltb-false, eqb-true}
 use Rattle.std.proofs.lemmas.List.{take-take}
 use Rattle.op_types.specs.declared.op.Op.{Op}
 use Rattle.op_types.specs.declared.op.Leaf.{Leaf}
-use Rattle.op_types.specs.Kinds.{is_change_lem, changed_user_lem}
+use Rattle.op_types.specs.Kinds.{is_change, changed_user}
 use Rattle.tree_model.specs.declared.entry.Entry.{Entry}
 use Rattle.tree_model.specs.AccessList.{IsRising, entry_of, dict}
 use Rattle.tree_model.proofs.ListChanges.{rising-changed_set}
@@ -50,7 +50,7 @@ state_of-rising owner leaves = fold-rising (opening owner) leaves (tt, tt)
 -- ---- the epoch is at most the length
 
 epoch_after-most : (epoch : ℕ) (op : Op) → epoch_after epoch op ≤ epoch + 1
-epoch_after-most epoch op = elim (is_change_lem op.kind) as (λ b. cond b (epoch + 1) epoch ≤ epoch + 1) [ true ↦ omega arith | false ↦ omega arith ]
+epoch_after-most epoch op = elim (is_change op.kind) as (λ b. cond b (epoch + 1) epoch ≤ epoch + 1) [ true ↦ omega arith | false ↦ omega arith ]
 
 fold-epoch : (s : State) (leaves : List Leaf) → (fold step s leaves).epoch ≤ s.epoch + length leaves
 fold-epoch s [] = omega arith
@@ -98,7 +98,7 @@ law_of-stands author changed epoch wall k op none =
       early_view = ltb-false k op.view.size e6.0;
     }
 
-pub law-stands : (s : State) (wall k : ℕ) (op : Op) → law s wall k op ≡ None → Stands (entry_of s.entries op.author) (option_and_then (λ (user : ℕ). entry_of s.entries user) (changed_user_lem op.kind)) s.epoch wall k op
+pub law-stands : (s : State) (wall k : ℕ) (op : Op) → law s wall k op ≡ None → Stands (entry_of s.entries op.author) (option_and_then (λ (user : ℕ). entry_of s.entries user) (changed_user op.kind)) s.epoch wall k op
 unfolding law
 law-stands s wall k op none = law_of-stands _ _ s.epoch wall k op none
 
@@ -130,7 +130,7 @@ lawful-take d owner wall leaves n lawful k leaf at =
 -- operation leaves, is that the position is lawful.
 pub position-step : (d : List ℕ → List ℕ) (s : State) (root_at : ℕ → Option (List ℕ)) (list_after : List ℕ) (wall k : ℕ) (leaf : Leaf)
     → list_after ≡ dict d (after s leaf.op).entries
-    → PositionPasses (told_of d s) (entry_of s.entries leaf.op.author) (option_and_then (λ (user : ℕ). entry_of s.entries user) (changed_user_lem leaf.op.kind)) list_after root_at wall k leaf
+    → PositionPasses (told_of d s) (entry_of s.entries leaf.op.author) (option_and_then (λ (user : ℕ). entry_of s.entries user) (changed_user leaf.op.kind)) list_after root_at wall k leaf
     → (law s wall k leaf.op ≡ None) × (told leaf ≡ told_of d (after s leaf.op))
 unfolding law
 position-step d s root_at list_after wall k leaf same passes =

@@ -1,20 +1,23 @@
 -- What the law's silence says of a change, and that the owner stays in the list.
-use Rattle.std.proofs.Common.{◌≡◌, ◌≢◌, ◌||◌, ℕ, zero, suc, ◌+◌, ◌<◌, ◌≤◌, Bool, true, false, not, List, [], ◌∷◌, length, take, Option, Some, None, refl, ap, sym, subst, ◌∙◌, inl, inr, arith}
-use Rattle.std.specs.Prelude.{slice_get, nat_eq, option_and_then}
-use Rattle.std.proofs.lemmas.Bool.{cases_eq, eq-eqb}
+use Rattle.std.proofs.Common.{◌≡◌, ◌≢◌, ◌||◌, ℕ, zero, suc, ◌+◌, ◌<◌, ◌≤◌, Bool, true, false, not, cond, List, [], ◌∷◌, length, take, Option, Some, None, refl, ap, sym, subst, ◌∙◌, inl, inr, arith}
+use Rattle.std.specs.Prelude.{fold, slice_get, nat_eq, option_and_then}
+use Rattle.std.proofs.lemmas.Bool.{cases_eq, eq-eqb, eqb-true}
 use Rattle.std.proofs.lemmas.List.{take_all}
 use Rattle.op_types.specs.declared.kind.Kind.{Kind}
 use Rattle.op_types.specs.declared.kind.Kind.TheVariants.{Post, Admit, Remove}
 use Rattle.op_types.specs.declared.op.Op.{Op}
 use Rattle.op_types.specs.declared.op.Leaf.{Leaf}
 use Rattle.op_types.specs.declared.roles.TheConstants.{OWNER}
-use Rattle.op_types.specs.Kinds.{changed_user_lem}
+use Rattle.op_types.specs.Kinds.{changed_user}
+use Rattle.op_types.specs.Roles.{may_be_given}
+use Rattle.op_types.specs.Spelling.{IsKind, IsLeaf}
+use Rattle.std.specs.List.{AllByRecursion}
 use Rattle.tree_model.specs.declared.entry.Entry.{Entry}
 use Rattle.std.specs.Option.{option_map}
 use Rattle.tree_model.specs.AccessList.{IsListed, FitsChange, ListChange, stays, adds, drops, entry_of, with_next, with_entry, without, change_by, changed_set}
-use Rattle.tree_model.proofs.LookUps.{with_next-own, with_next-other, with_entry-own, with_entry-other, without-other}
+use Rattle.tree_model.proofs.LookUps.{with_next-own, with_next-other, with_entry-own, with_entry-other, without-own, without-other}
 use Rattle.wall_law.specs.declared.state.State.{State}
-use Rattle.wall_law.specs.State.{HasOwner, opening, change_of, after, state_of}
+use Rattle.wall_law.specs.State.{HasOwner, IsOnlyOwner, opening, change_of, after, state_of}
 use Rattle.wall_law.specs.Law.{may_add, is_owner, fits_change, is_bad_change, law}
 use Rattle.wall_law.specs.Lawful.{Lawful}
 use Rattle.wall_law.proofs.Histories.{law-stands, state_of-next}
@@ -44,7 +47,7 @@ removed-present user slot wraps (Some e) fits = (e, refl, not-true (nat_eq e.rol
 
 -- the entry of a user whom a change changes
 abbrev changed_in : List Entry → Kind → Option Entry
-changed_in es kind = option_and_then (λ (user : ℕ). entry_of es user) (changed_user_lem kind)
+changed_in es kind = option_and_then (λ (user : ℕ). entry_of es user) (changed_user kind)
 
 kind-fits : (es : List Entry) (author : ℕ) (kind : Kind) → may_add (entry_of es author) ≡ true → is_bad_change (entry_of es author) (changed_in es kind) kind ≡ false → FitsChange es author (change_of kind)
 kind-fits es author (Post body) may good = may-listed (entry_of es author) may
@@ -139,3 +142,62 @@ change-some es author next (drops user) fits =
 -- where the law lets an operation stand, the list that it leaves isn't empty
 pub some-after : (s : State) (wall k : ℕ) (op : Op) → law s wall k op ≡ None → 0 < length (after s op).entries
 some-after s wall k op none = change-some s.entries op.author (op.seq + 1) (change_of op.kind) (law-fits s wall k op none)
+
+abbrev some_entry : Entry → Option Entry
+some_entry e = Some e
+
+-- ---- nobody else has the owner's role
+
+renumbered : (next : ℕ) (o : Option Entry) (e : Entry) → option_map (λ (x : Entry). record { user = x.user; role = x.role; next = next }) o ≡ Some e
+    → (x : Entry) × (o ≡ Some x) × (x.role ≡ e.role)
+renumbered next None e found = absurd cc
+renumbered next (Some x) e found = (x, refl, cc)
+
+alone-next : (owner author next : ℕ) (es : List Entry) → IsOnlyOwner owner es → IsOnlyOwner owner (with_next author next es)
+alone-next owner author next es alone user e found role = elim (cases_eq user author) [
+  | inl same ↦
+      let own = subst (λ (u : ℕ). entry_of (with_next author next es) u ≡ Some e) same found in
+      let before = renumbered next (entry_of es author) e (sym (with_next-own author next es) ∙ own) in
+      alone user before.0 (subst (λ (u : ℕ). entry_of es u ≡ Some before.0) (sym same) before.1) (before.2 ∙ role)
+  | inr other ↦ alone user e (sym (with_next-other author next user es other) ∙ found) role
+]
+
+given-differs : (role : ℕ) → may_be_given role ≡ true → role ≡ OWNER → ⊥
+given-differs role given is = let owner : may_be_given OWNER ≡ true = subst (λ (r : ℕ). may_be_given r ≡ true) is given in cc
+
+alone-changed : (owner : ℕ) (kind : Kind) (es : List Entry) → IsKind kind → IsOnlyOwner owner es → IsOnlyOwner owner (change_by (change_of kind) es)
+alone-changed owner (Post body) es fits alone user e found is = alone user e found is
+alone-changed owner (Admit new role slot wraps) es fits alone user e found is =
+    let entry : Entry = record { user = new; role = role; next = 0 } in
+    elim (cases_eq user new) [
+      | inl same ↦
+          let own = subst (λ (u : ℕ). entry_of (with_entry entry es) u ≡ Some e) same found in
+          let equal : some_entry entry ≡ some_entry e = sym (with_entry-own entry es) ∙ own in
+          let role-is : role ≡ e.role = cc in
+          absurd (given-differs role fits.role.1 (role-is ∙ is))
+      | inr other ↦ alone user e (sym (with_entry-other entry user es other) ∙ found) is
+    ]
+alone-changed owner (Remove gone slot wraps) es fits alone user e found is = elim (cases_eq user gone) [
+  | inl same ↦
+      let own = subst (λ (u : ℕ). entry_of (without gone es) u ≡ Some e) same found in
+      let none = without-own gone es in absurd cc
+  | inr other ↦ alone user e (sym (without-other gone user es other) ∙ found) is
+]
+
+alone-fold : (owner : ℕ) (s : State) (leaves : List Leaf) → AllByRecursion IsLeaf leaves → IsOnlyOwner owner s.entries
+    → IsOnlyOwner owner (fold (λ (t : State) (leaf : Leaf). after t leaf.op) s leaves).entries
+alone-fold owner s [] fit alone = alone
+alone-fold owner s (leaf ∷ leaves) fit alone =
+    let op = leaf.op in
+    let next = alone-changed owner op.kind (with_next op.author (op.seq + 1) s.entries) fit.0.op.kind (alone-next owner op.author (op.seq + 1) s.entries alone) in
+    alone-fold owner (after s op) leaves fit.1 next
+
+alone-opening : (owner : ℕ) → IsOnlyOwner owner (opening owner).entries
+alone-opening owner user e found is = opened (nat_eq owner user) refl found where
+  opened : (b : Bool) → nat_eq owner user ≡ b → cond b (some_entry (record { user = owner; role = OWNER; next = 0 })) None ≡ Some e → user ≡ owner
+  opened true same found = sym (eqb-true owner user same)
+  opened false other found = absurd cc
+
+-- after any leaves that have a spelling the owner alone has the owner's role
+pub state_of-alone : (owner : ℕ) (leaves : List Leaf) → AllByRecursion IsLeaf leaves → IsOnlyOwner owner (state_of owner leaves).entries
+state_of-alone owner leaves fit = alone-fold owner (opening owner) leaves fit (alone-opening owner)

@@ -4,8 +4,8 @@ use Rattle.op_types.specs.declared.kind.Kind.{Kind}
 use Rattle.op_types.specs.declared.kind.Kind.TheVariants.{Post, Admit, Remove}
 use Rattle.op_types.specs.declared.op.Op.{Op}
 use Rattle.op_types.specs.declared.roles.TheConstants.{OWNER}
-use Rattle.op_types.specs.Roles.{may_write_lem}
-use Rattle.op_types.specs.Kinds.{is_change_lem, changed_user_lem}
+use Rattle.op_types.specs.Roles.{may_write}
+use Rattle.op_types.specs.Kinds.{is_change, changed_user}
 use Rattle.tree_model.specs.declared.entry.Entry.{Entry}
 use Rattle.tree_model.specs.AccessList.{entry_of}
 use Rattle.wall_law.specs.declared.refusal.LawRefusal.{LawRefusal}
@@ -17,7 +17,7 @@ use Rattle.wall_law.specs.declared.state.State.{State}
 -- in the list as a writer or as the owner
 abbrev pub may_add : Option Entry → Bool
 may_add None = false
-may_add (Some e) = may_write_lem e.role
+may_add (Some e) = may_write e.role
 
 -- in the list as the owner
 abbrev pub is_owner : Option Entry → Bool
@@ -38,7 +38,7 @@ fits_change (Remove user slot wraps) None = false
 fits_change (Remove user slot wraps) (Some e) = not (nat_eq e.role OWNER)
 
 abbrev pub is_bad_change : Option Entry → Option Entry → Kind → Bool
-is_bad_change author changed kind = is_change_lem kind && (not (is_owner author) || not (fits_change kind changed))
+is_bad_change author changed kind = is_change kind && (not (is_owner author) || not (fits_change kind changed))
 
 -- ---- the law
 
@@ -54,7 +54,7 @@ law_of author changed epoch wall k op =
 
 -- The law in a state is that law over the state's own look-ups.
 unfoldable pub law : State → ℕ → ℕ → Op → Option LawRefusal
-law s wall k op = law_of (entry_of s.entries op.author) (option_and_then (λ user. entry_of s.entries user) (changed_user_lem op.kind)) s.epoch wall k op
+law s wall k op = law_of (entry_of s.entries op.author) (option_and_then (λ user. entry_of s.entries user) (changed_user op.kind)) s.epoch wall k op
 
 -- what a judgement answers, as a refusal or none
 abbrev pub refusal_of : Result (Unit {0}) LawRefusal → Option LawRefusal

@@ -5,7 +5,7 @@ use Rattle.op_types.specs.declared.kind.Kind.TheVariants.{Post, Admit, Remove}
 use Rattle.op_types.specs.declared.op.Op.{Op}
 use Rattle.op_types.specs.declared.op.Leaf.{Leaf}
 use Rattle.op_types.specs.declared.roles.TheConstants.{OWNER}
-use Rattle.op_types.specs.Kinds.{is_change_lem}
+use Rattle.op_types.specs.Kinds.{is_change}
 use Rattle.tree_model.specs.declared.entry.Entry.{Entry}
 use Rattle.tree_model.specs.AccessList.{ListChange, stays, adds, drops, changed_set, entry_of}
 use Rattle.wall_law.specs.declared.state.State.{State}
@@ -22,7 +22,7 @@ change_of (Remove user slot wraps) = drops user
 
 -- A change begins the next epoch.
 abbrev pub epoch_after : ℕ → Op → ℕ
-epoch_after epoch op = cond (is_change_lem op.kind) (epoch + 1) epoch
+epoch_after epoch op = cond (is_change op.kind) (epoch + 1) epoch
 
 -- The state after an operation: its author's next number is one more than the operation's, and its
 -- change is made.
@@ -36,3 +36,7 @@ state_of owner leaves = fold (λ (s : State) (leaf : Leaf). after s leaf.op) (op
 -- The owner is in the list, in the owner's role.
 abbrev pub HasOwner : ℕ → List Entry → Type 0
 HasOwner owner es = (next : ℕ) × (entry_of es owner ≡ Some (record { user = owner; role = OWNER; next = next }))
+
+-- Nobody else has the owner's role.
+abbrev pub IsOnlyOwner : ℕ → List Entry → Type 0
+IsOnlyOwner owner es = (user : ℕ) (e : Entry) → entry_of es user ≡ Some e → e.role ≡ OWNER → user ≡ owner

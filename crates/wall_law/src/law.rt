@@ -1,6 +1,6 @@
 ghost use Rattle.std.specs.Prelude.{◌≡◌, option_and_then};
 ghost use Rattle.tree_model.specs.AccessList.{entry_of};
-ghost use Rattle.op_types.specs.Kinds.{changed_user_lem};
+ghost use Rattle.op_types.specs.Kinds.{changed_user};
 ghost use Rattle.wall_law.specs.Law.{may_add, is_owner, next_of, fits_change, is_bad_change, law_of, law, refusal_of};
 
 use crate::refusal::LawRefusal;
@@ -8,7 +8,7 @@ use crate::state::State;
 use op_types::{Kind, OWNER, Op, may_write};
 use tree_model::{Entry, find_entry};
 
-fn may_add_op(author: &Option<Entry>) -> bool
+fn may_add(author: &Option<Entry>) -> bool
     ensures { result ≡ may_add author.now }
 {
     match author {
@@ -17,7 +17,7 @@ fn may_add_op(author: &Option<Entry>) -> bool
     }
 }
 
-fn is_the_owner(author: &Option<Entry>) -> bool
+fn is_owner(author: &Option<Entry>) -> bool
     ensures { result ≡ is_owner author.now }
 {
     match author {
@@ -26,7 +26,7 @@ fn is_the_owner(author: &Option<Entry>) -> bool
     }
 }
 
-fn next_number(author: &Option<Entry>) -> u32
+fn next_of(author: &Option<Entry>) -> u32
     ensures { result ≡ next_of author.now }
 {
     match author {
@@ -35,7 +35,7 @@ fn next_number(author: &Option<Entry>) -> u32
     }
 }
 
-fn change_fits(kind: &Kind, changed: &Option<Entry>) -> bool
+fn fits_change(kind: &Kind, changed: &Option<Entry>) -> bool
     ensures { result ≡ fits_change kind.now changed.now }
 {
     match kind {
@@ -51,10 +51,10 @@ fn change_fits(kind: &Kind, changed: &Option<Entry>) -> bool
     }
 }
 
-fn changes_badly(author: &Option<Entry>, changed: &Option<Entry>, kind: &Kind) -> bool
+fn is_bad_change(author: &Option<Entry>, changed: &Option<Entry>, kind: &Kind) -> bool
     ensures { result ≡ is_bad_change author.now changed.now kind.now }
 {
-    kind.is_change() && (!is_the_owner(author) || !change_fits(kind, changed))
+    kind.is_change() && (!is_owner(author) || !fits_change(kind, changed))
 }
 
 /// Judges an operation at position `k` of a wall over the entries that were found of its author and of
@@ -73,17 +73,17 @@ pub fn judge_found(
     if op.wall != wall {
         return Err(LawRefusal::WrongWall);
     }
-    if !may_add_op(author) {
+    if !may_add(author) {
         return Err(LawRefusal::NotAllowed);
     }
     if op.epoch != epoch {
         return Err(LawRefusal::StaleEpoch { now: epoch });
     }
-    let next = next_number(author);
+    let next = next_of(author);
     if op.seq < next {
         return Err(LawRefusal::Replayed { next });
     }
-    if changes_badly(author, changed, &op.kind) {
+    if is_bad_change(author, changed, &op.kind) {
         return Err(LawRefusal::BadChange);
     }
     if k < op.view.size {
@@ -93,7 +93,7 @@ pub fn judge_found(
 }
 
 fn changed_entry(entries: &[Entry], kind: &Kind) -> Option<Entry>
-    ensures { result ≡ option_and_then (λ user. entry_of entries.now user) (changed_user_lem kind.now) }
+    ensures { result ≡ option_and_then (λ user. entry_of entries.now user) (changed_user kind.now) }
 {
     match kind.changed_user() {
         None => None,

@@ -1,13 +1,15 @@
 //! The laws of lawful histories. Each function has an empty body, and its contract is the law.
 ghost use Rattle.op_types.specs.declared.op.Leaf.{Leaf};
 ghost use Rattle.op_types.specs.declared.op.Op.{Op};
-ghost use Rattle.op_types.specs.Kinds.{changed_user_lem};
+ghost use Rattle.op_types.specs.Kinds.{changed_user};
+ghost use Rattle.op_types.specs.Spelling.{IsLeaf};
+ghost use Rattle.std.specs.List.{AllByRecursion};
 ghost use Rattle.std.specs.Prelude.{◌≡◌, ◌+◌, ◌<◌, ◌≤◌, ◌↔◌, ◌++◌, ◌∷◌, [], ℕ, List, None, Option, Some, length, option_and_then, slice_get, take};
 ghost use Rattle.tree_model.specs.AccessList.{FitsChange, IsRising, dict, entry_of};
 ghost use Rattle.wall_law.specs.declared.state.State.{State};
 ghost use Rattle.wall_law.specs.Law.{law};
 ghost use Rattle.wall_law.specs.Lawful.{ComesNext, IsLawfulAt, Lawful, PositionPasses, told, told_of};
-ghost use Rattle.wall_law.specs.State.{HasOwner, after, change_of, state_of};
+ghost use Rattle.wall_law.specs.State.{HasOwner, IsOnlyOwner, after, change_of, state_of};
 
 /// What holds of the state after any leaves: it is made leaf by leaf, its users rise, and its epoch is
 /// at most the number of the leaves.
@@ -27,7 +29,7 @@ pub fn histories()
 /// What a check finds of one position, over the state's own entries and the digest of the list that the
 /// operation leaves, is that the position is lawful.
 pub fn positions()
-    ensures { (d : List ℕ → List ℕ) (s : State) (root_at : ℕ → Option (List ℕ)) (list_after : List ℕ) (wall k : ℕ) (leaf : Leaf) → list_after ≡ dict d (after s leaf.op).entries → PositionPasses (told_of d s) (entry_of s.entries leaf.op.author) (option_and_then (λ (user : ℕ). entry_of s.entries user) (changed_user_lem leaf.op.kind)) list_after root_at wall k leaf → (law s wall k leaf.op ≡ None) × (told leaf ≡ told_of d (after s leaf.op)) }
+    ensures { (d : List ℕ → List ℕ) (s : State) (root_at : ℕ → Option (List ℕ)) (list_after : List ℕ) (wall k : ℕ) (leaf : Leaf) → list_after ≡ dict d (after s leaf.op).entries → PositionPasses (told_of d s) (entry_of s.entries leaf.op.author) (option_and_then (λ (user : ℕ). entry_of s.entries user) (changed_user leaf.op.kind)) list_after root_at wall k leaf → (law s wall k leaf.op ≡ None) × (told leaf ≡ told_of d (after s leaf.op)) }
 {}
 
 /// Where the law has no refusal, the author is in the access list, an admitted user isn't, and a removed
@@ -37,11 +39,13 @@ pub fn changes()
 {}
 
 /// The owner stays in the access list, in the owner's role: over each operation that the law lets stand,
-/// and so over every lawful history, whose list is never empty.
+/// and so over every lawful history, whose list is never empty. Nobody else has that role after any leaves
+/// that have a spelling, since no admission that has one gives it.
 pub fn owners()
     ensures stays { (s : State) (owner wall k : ℕ) (op : Op) → law s wall k op ≡ None → HasOwner owner s.entries → HasOwner owner (after s op).entries }
     ensures listed { (d : List ℕ → List ℕ) (owner wall : ℕ) (leaves : List Leaf) → Lawful d owner wall leaves → HasOwner owner (state_of owner leaves).entries }
     ensures some { (d : List ℕ → List ℕ) (owner wall : ℕ) (leaves : List Leaf) → Lawful d owner wall leaves → 0 < length (state_of owner leaves).entries }
+    ensures alone { (owner : ℕ) (leaves : List Leaf) → AllByRecursion IsLeaf leaves → IsOnlyOwner owner (state_of owner leaves).entries }
 {}
 
 /// Lawful histories leaf by leaf. The empty history is lawful, and one with a leaf more is lawful exactly

@@ -1,5 +1,5 @@
 use super::*;
-use op_types::{OWNER, WRITER, read_op};
+use op_types::read_op;
 use std::alloc::{AllocError, Global};
 use std::test::Fail;
 use tree_model::Entry;
@@ -47,7 +47,7 @@ const VIEW_OF_ONE: &[u8] = &[
 fn operations_are_judged_in_order(rt: HostRuntime) -> Result<(), Fail> {
     let alloc = rt.alloc();
     let mut state = genesis(alloc, 1)?;
-    assert_eq!(rt; state.entries.as_slice(), [entry(1, OWNER, 0)].as_slice());
+    assert_eq!(rt; state.entries.as_slice(), [entry(1, 3, 0)].as_slice());
     // wall, position, author, number, epoch, view, kind and what is wanted
     let cases = [
         (2, 0, 9, 0, 9, NO_VIEW, POST, Err(LawRefusal::WrongWall)),
@@ -131,7 +131,7 @@ fn operations_are_judged_in_order(rt: HostRuntime) -> Result<(), Fail> {
     assert_eq!(rt; state.epoch, 5);
     assert_eq!(rt;
         state.entries.as_slice(),
-        [entry(1, OWNER, 9), entry(2, WRITER, 1)].as_slice()
+        [entry(1, 3, 9), entry(2, 2, 1)].as_slice()
     );
     Ok(())
 }
