@@ -1,4 +1,5 @@
 pub mod Formats
+pub mod HistoryLaws
 pub mod Limits
 pub mod Lists
 pub mod Parts

@@ -1,4 +1,5 @@
 pub mod Bytes
 pub mod Format
+pub mod History
 pub mod Parts
 pub mod Reading

@@ -4,11 +4,13 @@
 #![tactic(auto)]
 
 mod cur;
+mod history;
 mod put;
 mod refusals;
 mod sequence;
 
 pub use cur::Cur;
+pub use history::{turns_grow, turns_stay, whole};
 pub use put::{put_bytes, put_counted, put_u8, put_u16, put_u32, put_u64};
 pub use refusals::{NoMemory, OutsideRange, ReadRefusal, TooFew};
 pub use sequence::{Bytes, Sequence, Texts};
