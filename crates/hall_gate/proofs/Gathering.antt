@@ -8,7 +8,7 @@ use Rattle.hall_gate.specs.declared.rule.Charge.{Charge}
 use Rattle.hall_gate.specs.declared.rule.Stage.TheVariants.{Idle}
 use Rattle.hall_gate.specs.declared.gate.Gate.{Gate}
 use Rattle.hall_gate.specs.declared.seat.GateSeat.{GateSeat}
-use Rattle.hall_gate.specs.Fronts.{Begins, own}
+use Rattle.fr_bytes.specs.History.{Begins, own}
 use Rattle.hall_gate.specs.Knowing.{view, caller_at, fixed_at, front_at}
 use Rattle.hall_gate.specs.Plays.{Held, seated, joined}
 use Rattle.hall_gate.specs.Rule.{Charged, Closes}

@@ -1,5 +1,5 @@
 pub mod Totals
-pub mod Fronts
+pub mod Calls
 pub mod Keeping
 pub mod Turning
 pub mod Seating
@@ -7,4 +7,3 @@ pub mod Opening
 pub mod Dealing
 pub mod Closing
 pub mod Gathering
-pub mod Growing

@@ -17,7 +17,7 @@ use Rattle.hall_gate.specs.Rule.{Lock, empty, opening, Charged, Knows, Kept, Are
 use Rattle.hall_gate.specs.Plays as plays
 use Rattle.hall_gate.specs.Plays.{undealt, dealt, noted, joined}
 use Rattle.hall_gate.proofs.Totals.{only}
-use Rattle.hall_gate.proofs.Fronts.{begins_itself}
+use Rattle.fr_bytes.proofs.HistoryLaws.{begins_itself}
 
 abbrev IsEmpty : Stage → Type 0
 IsEmpty (Unborn l) = Unit {0}

@@ -9,14 +9,14 @@ use Rattle.atomic_table.proofs.Lists.{set_else, at_snoc, at_longer}
 use Rattle.hall_gate.specs.declared.rule.Charge.{Charge}
 use Rattle.hall_gate.specs.declared.rule.Stage.TheVariants.{Idle}
 use Rattle.hall_gate.specs.declared.rule.View.{View}
-use Rattle.hall_gate.specs.Fronts.{Begins}
+use Rattle.fr_bytes.specs.History.{Begins}
 use Rattle.hall_gate.specs.Knowing.{total, one_if, tickets, tickets_at, charges, charges_of, view, idle, has_front, spent, front_at}
 use Rattle.hall_gate.specs.Rule.{Lock, Charged, Knows, Kept, Ruled}
 use Rattle.hall_gate.specs.Plays as plays
 use Rattle.hall_gate.specs.Plays.{Held, Meets, undealt, dealt, noted, joined}
 use Rattle.hall_gate.proofs.Totals.{total_set, total-append, each_set}
 use Rattle.fr_bytes.proofs.Lists.{each-append}
-use Rattle.hall_gate.proofs.Fronts.{begins_itself}
+use Rattle.fr_bytes.proofs.HistoryLaws.{begins_itself}
 use Rattle.hall_gate.proofs.Keeping.{stayed, still_out, born}
 
 module _ {F E : Type 0} where

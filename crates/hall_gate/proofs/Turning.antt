@@ -15,14 +15,14 @@ use Rattle.hall_gate.specs.declared.rule.Charge.{Charge}
 use Rattle.hall_gate.specs.declared.rule.Stage.{Stage}
 use Rattle.hall_gate.specs.declared.rule.Stage.TheVariants.{Unborn, Opening, Idle, Waiting, Holding}
 use Rattle.hall_gate.specs.declared.rule.View.{View}
-use Rattle.hall_gate.specs.Fronts.{Begins, own}
+use Rattle.fr_bytes.specs.History.{Begins, own}
 use Rattle.hall_gate.specs.Knowing.{one_if, tickets, tickets_at, charges_of, idle, waiting, holding, has_front, fixed_at, front_at}
 use Rattle.hall_gate.specs.Rule.{Lock, AtHome, Charged, Staged, Kept, Ruled}
 use Rattle.hall_gate.specs.Plays as plays
 use Rattle.hall_gate.specs.Plays.{Held, GetsTurn}
 use Rattle.hall_gate.proofs.Totals.{total_set, total_at, total_two, total_none, place_below, one_place}
 use Rattle.fr_bytes.proofs.Lists.{each-append}
-use Rattle.hall_gate.proofs.Fronts.{begins_itself, begins_more, own-append, own_other}
+use Rattle.fr_bytes.proofs.HistoryLaws.{begins_itself, begins_more, own-append, own_other}
 use Rattle.hall_gate.proofs.Keeping.{few_out, moved, stayed, comes_home, born, still_out}
 
 module _ {F E : Type 0} where

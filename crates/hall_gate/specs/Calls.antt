@@ -1,6 +1,6 @@
 -- What one call adds to a history, and what a turn and a meeting do to a front.
 use Rattle.std.specs.Prelude.{◌≡◌, ℕ, List, [], ◌∷◌, ◌++◌}
-use Rattle.hall_gate.specs.Fronts.{Begins, own}
+use Rattle.fr_bytes.specs.History.{Begins, own}
 
 module _ {E A R : Type 0} (caller : E → ℕ) (ask : E → A) (answer : E → R) where
   -- the entry e is the call of the caller c, who asked a and was answered r

@@ -1,5 +1,4 @@
 pub mod Calls
-pub mod Fronts
 pub mod Knowing
 pub mod Rule
 pub mod Plays

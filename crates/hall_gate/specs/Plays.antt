@@ -6,7 +6,7 @@ use Rattle.hall_gate.specs.declared.rule.Charge.{Charge}
 use Rattle.hall_gate.specs.declared.rule.Stage.{Stage}
 use Rattle.hall_gate.specs.declared.rule.Stage.TheVariants.{Unborn, Opening, Idle, Waiting}
 use Rattle.hall_gate.specs.declared.rule.View.{View}
-use Rattle.hall_gate.specs.Fronts.{Begins, own}
+use Rattle.fr_bytes.specs.History.{Begins, own}
 use Rattle.hall_gate.specs.Knowing.{view, idle, holding, has_front, new_charges}
 use Rattle.hall_gate.specs.Rule.{Is}
 

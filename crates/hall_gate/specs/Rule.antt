@@ -8,7 +8,7 @@ use Rattle.hall_gate.specs.declared.rule.Charge.{Charge}
 use Rattle.hall_gate.specs.declared.rule.Stage.{Stage}
 use Rattle.hall_gate.specs.declared.rule.Stage.TheVariants.{Unborn, Opening, Idle, Waiting, Holding}
 use Rattle.hall_gate.specs.declared.rule.View.{View}
-use Rattle.hall_gate.specs.Fronts.{Begins, own}
+use Rattle.fr_bytes.specs.History.{Begins, own}
 use Rattle.hall_gate.specs.Knowing.{total, tickets, tickets_at, HasTurn, charges, charges_of, view}
 
 -- a lock round a value of T, of which F is the fixed part and E an entry

@@ -2,7 +2,7 @@
 ghost use Rattle.std.specs.Prelude.{◌≡◌, ◌<◌, [], map, length, Some};
 ghost use Rattle.std.specs.List.{All, Contains};
 ghost use Rattle.hall_gate.specs.declared.rule.Stage.TheVariants.{Idle};
-ghost use Rattle.hall_gate.specs.Fronts.{Begins, own};
+ghost use Rattle.fr_bytes.specs.History.{Begins, own};
 ghost use Rattle.hall_gate.specs.Knowing.{view};
 ghost use Rattle.hall_gate.specs.Plays.{seated};
 ghost use Rattle.hall_gate.specs.Rule.{Closes};

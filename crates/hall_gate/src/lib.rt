@@ -5,7 +5,6 @@
 
 mod close;
 mod gate;
-mod laws;
 mod make;
 mod meet;
 mod plays;
@@ -17,6 +16,5 @@ mod turn;
 mod turned;
 
 pub use gate::Gate;
-pub use laws::{turns_grow, whole};
 pub use seat::GateSeat;
 pub use turned::Turned;

@@ -4,7 +4,7 @@ ghost use Rattle.std.specs.Option.{ForSome};
 ghost use Rattle.std.specs.List.{AllByRecursion};
 ghost use Rattle.hall_gate.specs.declared.rule.Stage.TheVariants.{Idle};
 ghost use Rattle.hall_gate.specs.Calls.{SeesMore};
-ghost use Rattle.hall_gate.specs.Fronts.{Begins};
+ghost use Rattle.fr_bytes.specs.History.{Begins};
 ghost use Rattle.hall_gate.specs.Knowing.{view};
 ghost use Rattle.hall_gate.specs.Seats.{caller_of, front_of, fixed_of, IsSeatOf, IsSameSeat};
 
