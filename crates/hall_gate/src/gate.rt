@@ -1,5 +1,6 @@
 ghost use Rattle.std.specs.Prelude.{◌≡◌, ◌<◌, length};
 
+use super::parking::Parking;
 use super::rule::{TurnRule, View};
 use super::turned::Turned;
 use atomic_table::Table;
@@ -19,6 +20,7 @@ pub type TurnTable<T> = Table<
 /// The value comes back by `close`. Where it may be dropped, so may the gate.
 pub struct Gate<T: Turned> {
     pub(crate) table: TurnTable<T>,
+    pub(crate) parking: Parking,
     ghost shape: { (table.shared.table_id.words ≡ 2) × (table.shared.table_id.slots ≡ 1) × (0 < length table.shared.key.items) },
 }
 
@@ -26,14 +28,16 @@ impl<T: Turned> Gate<T> {
     pub(crate) fn into_table(self) -> TurnTable<T>
         ensures { result ≡ self.table }
     {
-        let Gate { table } = self;
+        let Gate { table, parking } = self;
+        drop(parking);
         table
     }
 }
 
 impl<T: Turned + Drop> Drop for Gate<T> {
     fn drop(self) {
-        let Gate { table } = self;
+        let Gate { table, parking } = self;
         drop(table);
+        drop(parking);
     }
 }

@@ -7,6 +7,7 @@ mod close;
 mod gate;
 mod make;
 mod meet;
+mod parking;
 mod plays;
 mod rule;
 mod seat;

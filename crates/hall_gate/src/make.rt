@@ -7,6 +7,7 @@ ghost use Rattle.hall_gate.specs.Plays.{seated};
 ghost use Rattle.hall_gate.specs.Seats.{caller_of, front_of, fixed_of, callers_of, IsSeatOf, state_of};
 
 use super::gate::Gate;
+use super::parking::Parking;
 use super::plays::{Deal, Fill, Open};
 use super::rule::View;
 use super::seat::GateSeat;
@@ -62,10 +63,11 @@ impl<T: Turned> Gate<T> {
         ensures room { IfOk result (λ r. (r.2.items ≡ []) × (length callers.now ≤ vec_capacity r.2)) }
     {
         let seats = Vec::with_capacity(alloc, callers.len())?;
+        let parking = Parking::new(alloc, callers.len())?;
         let mut about = Vec::new(alloc);
         about.extend_from_slice(callers)?;
         let (table, place) = Table::vacant(alloc, [0, 0].as_slice(), 1, &about)?;
-        Ok((Gate { table }, place, seats))
+        Ok((Gate { table, parking }, place, seats))
     }
 
     // Takes the empty slot, puts the value in, and gives it back.

@@ -10,7 +10,6 @@ use super::seat::GateSeat;
 use super::turned::Turned;
 use fr_bytes::NoMemory;
 use std::sync::Wait;
-use std::thread;
 
 impl<T: Turned> Gate<T> {
     /// Makes one call: waits for the turn, hands the slip to the value, and shows the value as it is then.
@@ -58,12 +57,15 @@ impl<T: Turned> Gate<T> {
         ensures sees { SeesMore T.caller (caller_of seat.old) (front_of seat.old) (front_of seat.new) }
         ensures turn { (x : T) × IsHolding self.now seat.new (Some x) × IsSeen T.valid T.fixed T.entries seat.new x }
     {
+        let mut looks = 0u32;
         for _ in rt.forever() {
+            self.parking.announce(ticket, looks);
             let serving = self.table.shared.load::<Await<T>>(&mut seat.seat, 1);
             if serving == ticket {
                 return;
             }
-            thread::yield_now();
+            self.parking.pause(rt, ticket, looks);
+            looks = looks.saturating_add(1);
         }
         unreachable!()
     }
@@ -107,9 +109,11 @@ impl<T: Turned> Gate<T> {
         ensures front { front_of seat.new ≡ T.entries inner }
     {
         let slot = self.table.shared.exchange(&mut seat.seat, 0, Some(inner));
-        self.table
+        let served = self
+            .table
             .shared
             .fetch_add::<Serve<T>>(&mut seat.seat, 1, 1);
+        self.parking.wake(served.wrapping_add(1));
         let None = slot else { unreachable!() };
     }
 }
