@@ -1,5 +1,5 @@
 pub mod Totals
-pub mod Calls
+pub mod Turns
 pub mod Keeping
 pub mod Turning
 pub mod Seating

@@ -3,6 +3,7 @@
 //! its order, with the answers that it was given.
 #![tactic(auto)]
 
+mod calls;
 mod close;
 mod gate;
 mod make;
@@ -16,6 +17,7 @@ mod tests;
 mod turn;
 mod turned;
 
+pub use calls::{Calls, Room};
 pub use gate::Gate;
 pub use seat::GateSeat;
 pub use turned::Turned;

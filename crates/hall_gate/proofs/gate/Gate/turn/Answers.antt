@@ -1,4 +1,4 @@
-use Rattle.hall_gate.proofs.Calls.{takes_turn}
+use Rattle.hall_gate.proofs.Turns.{takes_turn}
 use Rattle.hall_gate.proofs.gate.Gate.turn.Goals as goal
 
 pub returns-clause-front : goal.returns-clause-front

@@ -1,0 +1,2 @@
+pub mod TextHall
+pub mod AnswersTurn
