@@ -3,6 +3,7 @@ pub mod Turns
 pub mod Keeping
 pub mod Turning
 pub mod Seating
+pub mod SeatLaws
 pub mod Opening
 pub mod Dealing
 pub mod Closing

@@ -3,3 +3,4 @@ pub mod Knowing
 pub mod Rule
 pub mod Plays
 pub mod Seats
+pub mod SeatLaws

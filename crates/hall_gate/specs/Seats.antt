@@ -5,6 +5,7 @@ use Rattle.hall_gate.specs.declared.rule.View.{View}
 use Rattle.hall_gate.specs.declared.rule.Charge.{Charge}
 use Rattle.hall_gate.specs.declared.seat.GateSeat.{GateSeat}
 use Rattle.hall_gate.specs.declared.gate.Gate.{Gate}
+use Rattle.hall_gate.specs.Calls.{SeesMore}
 use Rattle.hall_gate.specs.Knowing.{idle, waiting, holding, caller_at, fixed_at, front_at}
 
 module _ {T Slip Answer Seen Entry Ask Fixed : Type 0} where
@@ -38,6 +39,16 @@ module _ {T Slip Answer Seen Entry Ask Fixed : Type 0} where
   pub record IsSameSeat (before after : GateSeat T Slip Answer Seen Entry Ask Fixed) : Type 0 where
     pub caller : caller_of after ≡ caller_of before
     pub fixed : fixed_of after ≡ fixed_of before
+
+  -- the seat is the same, and has seen more, but no new entry of its own caller
+  pub record HasSeenMore (caller : Entry → ℕ) (before after : GateSeat T Slip Answer Seen Entry Ask Fixed) : Type 0 where
+    pub same : IsSameSeat before after
+    pub sees : SeesMore caller (caller_of before) (front_of before) (front_of after)
+
+  -- the fixed part that a seat of a gate knows
+  abbrev pub fixed_in : (gate : Gate T Slip Answer Seen Entry Ask Fixed) (seat : GateSeat T Slip Answer Seen Entry Ask Fixed)
+      → IsSeatOf gate seat → Fixed
+  fixed_in gate seat is = is.charge.fixed
 
   -- the seat waits with the ticket t
   pub record IsWaiting (gate : Gate T Slip Answer Seen Entry Ask Fixed) (seat : GateSeat T Slip Answer Seen Entry Ask Fixed) (t : ℕ) : Type 0 where

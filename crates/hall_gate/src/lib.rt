@@ -6,18 +6,18 @@
 mod calls;
 mod close;
 mod gate;
+mod laws;
 mod make;
 mod meet;
 mod parking;
 mod plays;
 mod rule;
 mod seat;
-#[cfg(test)]
-mod tests;
 mod turn;
 mod turned;
 
 pub use calls::{Calls, Room};
 pub use gate::Gate;
+pub use laws::{knows_fixed, sees_more};
 pub use seat::GateSeat;
 pub use turned::Turned;

@@ -3,10 +3,9 @@ ghost use Rattle.std.specs.Prelude.{◌≡◌, [], ◌∷◌, IsOk};
 ghost use Rattle.std.specs.Option.{ForSome};
 ghost use Rattle.std.specs.List.{AllByRecursion};
 ghost use Rattle.hall_gate.specs.declared.rule.Stage.TheVariants.{Idle};
-ghost use Rattle.hall_gate.specs.Calls.{SeesMore};
 ghost use Rattle.fr_bytes.specs.History.{Begins};
 ghost use Rattle.hall_gate.specs.Knowing.{view};
-ghost use Rattle.hall_gate.specs.Seats.{caller_of, front_of, fixed_of, IsSeatOf, IsSameSeat};
+ghost use Rattle.hall_gate.specs.Seats.{front_of, fixed_of, IsSeatOf, HasSeenMore};
 
 use super::gate::Gate;
 use super::plays::{Gather, Meet, Note};
@@ -25,10 +24,9 @@ impl<T: Turned> Gate<T> {
         requires a { IsSeatOf self.now a.old }
         requires b { IsSeatOf self.now b.old }
         ensures ok { IsOk result }
-        ensures a { IsSeatOf self.now a.new × IsSameSeat a.old a.new }
-        ensures b { IsSeatOf self.now b.new × IsSameSeat b.old b.new }
-        ensures a_sees { SeesMore T.caller (caller_of a.old) (front_of a.old) (front_of a.new) × Begins (front_of b.old) (front_of a.new) }
-        ensures b_sees { SeesMore T.caller (caller_of b.old) (front_of b.old) (front_of b.new) × Begins (front_of a.old) (front_of b.new) }
+        ensures seats { IsSeatOf self.now a.new × IsSeatOf self.now b.new }
+        ensures a_sees { HasSeenMore T.caller a.old a.new × Begins (front_of b.old) (front_of a.new) }
+        ensures b_sees { HasSeenMore T.caller b.old b.new × Begins (front_of a.old) (front_of b.new) }
         ensures legal { ForSome (fixed_of a.old) (λ f. T.legal f (front_of a.new)) × ForSome (fixed_of b.old) (λ f. T.legal f (front_of b.new)) }
     {
         let from_a = self.note(a);
@@ -55,8 +53,7 @@ impl<T: Turned> Gate<T> {
         requires at { other.table_id ≡ self.now.table.shared.table_id }
         requires note { other.me ≡ (view Idle [] other.me.0.heard, []) }
         ensures seat { IsSeatOf self.now seat.new }
-        ensures same { IsSameSeat seat.old seat.new }
-        ensures sees { SeesMore T.caller (caller_of seat.old) (front_of seat.old) (front_of seat.new) }
+        ensures sees { HasSeenMore T.caller seat.old seat.new }
         ensures told { AllByRecursion (λ front. Begins front (front_of seat.new)) other.me.0.heard }
         ensures legal { ForSome (fixed_of seat.old) (λ f. T.legal f (front_of seat.new)) }
     {

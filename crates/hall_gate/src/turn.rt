@@ -1,8 +1,8 @@
 //! A turn: draw a ticket, wait until it is served, take the value, put it back, serve the next ticket.
 ghost use Rattle.std.specs.Prelude.{◌≡◌, Some, None, IfOk};
 ghost use Rattle.std.specs.Option.{ForSome};
-ghost use Rattle.hall_gate.specs.Calls.{TakesTurn, SeesMore, AddsCall};
-ghost use Rattle.hall_gate.specs.Seats.{caller_of, front_of, fixed_of, IsSeatOf, IsSameSeat, IsWaiting, IsHolding, IsSeen, IsNext};
+ghost use Rattle.hall_gate.specs.Calls.{TakesTurn, AddsCall};
+ghost use Rattle.hall_gate.specs.Seats.{caller_of, front_of, fixed_of, IsSeatOf, IsSameSeat, HasSeenMore, IsWaiting, IsHolding, IsSeen, IsNext};
 
 use super::gate::Gate;
 use super::plays::{Await, Draw, Serve};
@@ -16,7 +16,7 @@ impl<T: Turned> Gate<T> {
     ///
     /// The seat is this gate's, and the slip's caller is the seat's. The seat's front is afterwards what it
     /// was, then entries of others, and then the entry of this call with the answer that is returned. It is
-    /// the list of all entries that the value had at the end of this turn, and what is shown stands for it.
+    /// legal for the fixed part of the value behind the gate, and what is shown stands for it.
     ///
     /// The gate takes no memory for it. Where the value wants memory to be shown, that is handed on beside
     /// the answer, and the call is made all the same. It may wait for other callers' turns, and says nothing
@@ -32,7 +32,6 @@ impl<T: Turned> Gate<T> {
         ensures seat { IsSeatOf self.now seat.new }
         ensures same { IsSameSeat seat.old seat.new }
         ensures front { TakesTurn T.caller T.ask T.answer (front_of seat.old) (front_of seat.new) (caller_of seat.old) (T.slip_ask slip) result.0 }
-        ensures had { (x : T) × IsSeen T.valid T.fixed T.entries seat.new x }
         ensures legal { ForSome (fixed_of seat.old) (λ f. T.legal f (front_of seat.new)) }
         ensures seen { IfOk result.1 (λ n. ForSome (fixed_of seat.old) (λ f. T.stands n f (front_of seat.new))) }
     {
@@ -53,8 +52,7 @@ impl<T: Turned> Gate<T> {
     // Waits until the ticket is served. The slot is then the seat's, and it has seen all entries.
     fn wait_for<R: Wait>(&self, rt: &R, seat: &mut GateSeat<T>, ticket: u64)
         requires { IsWaiting self.now seat.old ticket }
-        ensures same { IsSameSeat seat.old seat.new }
-        ensures sees { SeesMore T.caller (caller_of seat.old) (front_of seat.old) (front_of seat.new) }
+        ensures sees { HasSeenMore T.caller seat.old seat.new }
         ensures turn { (x : T) × IsHolding self.now seat.new (Some x) × IsSeen T.valid T.fixed T.entries seat.new x }
     {
         let mut looks = 0u32;
@@ -77,7 +75,6 @@ impl<T: Turned> Gate<T> {
         ensures seat { IsSeatOf self.now seat.new }
         ensures same { IsSameSeat seat.old seat.new }
         ensures front { AddsCall T.caller T.ask T.answer (front_of seat.old) (front_of seat.new) (caller_of seat.old) (T.slip_ask slip) result.0 }
-        ensures had { (x : T) × IsSeen T.valid T.fixed T.entries seat.new x }
         ensures legal { ForSome (fixed_of seat.old) (λ f. T.legal f (front_of seat.new)) }
         ensures seen { IfOk result.1 (λ n. ForSome (fixed_of seat.old) (λ f. T.stands n f (front_of seat.new))) }
     {

@@ -7,6 +7,9 @@ use fr_bytes::NoMemory;
 ///
 /// No call takes memory of its own: what an entry needs comes with the slip, and `seen` may answer that
 /// it wants memory.
+///
+/// Where an impl has type parameters, no function that its methods call may ask `Send` or `Sync` of them: the
+/// toolchain takes such a bound only where threads are started.
 pub trait Turned {
     /// A call as it is handed in: its caller, what it asks, and the memory of its entry.
     type Slip;

@@ -61,7 +61,7 @@ fn is_one_history<D: Digester>(
 ) -> Result<bool, NoMemory> {
     let root = hall.root();
     let calls = calls_of(alloc, hall)?;
-    let all = calls.len() as u64 == turns as u64 * callers.len() as u64;
+    let all = calls.len() == (turns as usize).wrapping_mul(callers.len());
     let each = callers
         .iter()
         .all(|caller| counted(&calls, *caller) == turns);
@@ -74,7 +74,7 @@ fn two_rounds<D: Digester + Send + Sync, R: Threads + Wait + Sync>(
     alloc: Global,
     callers: &[u32],
 ) -> Result<bool, NoMemory>
-    requires some { (1 < length callers.now) × (length callers.now < 2 ^ 31) }
+    requires some { 1 < length callers.now }
     requires apart { AllPairs (λ c d. c ≢ d) callers.now }
 {
     let (gate, mut seats) = opened(alloc, TextHall::<D>::new(OWNER, false), callers)?;
