@@ -44,7 +44,8 @@ brings_carries m now request reply out (Ok x) h = record {
   kept = same_straight m now h.0.fails h.2;
   tells = ap (λ (log : List Carried). Some log) h.3;
   through = λ straight. h.4 ∙ straight_replies m reply straight;
-  calm = λ straight. h.1;
+  calm = h.1;
+  straight_calm = λ straight. h.1;
   never_falls = omega (arith, h.1);
   cause = tt;
 }
@@ -53,7 +54,8 @@ brings_carries m now request reply out (Err ends.NoMemory) h = record {
   kept = same_straight m now (ap (λ (s : Schedule). s.fails.items) h.0) h.1;
   tells = ap (λ (log : List Carried). Some log) (h.2 ∙ sym (append-nil m.log.items));
   through = λ straight. tt;
-  calm = λ straight. ap (λ (s : Schedule). s.faults) h.0;
+  calm = tt;
+  straight_calm = λ straight. ap (λ (s : Schedule). s.faults) h.0;
   never_falls = omega (arith, ap (λ (s : Schedule). s.faults) h.0);
   cause = tt;
 }

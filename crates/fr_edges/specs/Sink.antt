@@ -12,10 +12,11 @@ pub record SinkView : Type 0 where
 abbrev pub with_more : {A : Type 0} → Option (List A) → List A → Option (List A)
 with_more told more = option_map (λ front. front ++ more) told
 
--- A write of the piece `bytes`.
+-- A write of the piece `bytes`. The count of faults rises in a write that fails, and in no other.
 pub record Writes (before now : SinkView) (bytes : List ℕ) (result : Result ℕ Failed) : Type 0 where
   pub bound : IfOk result (λ n. n ≤ length bytes)
   pub progress : IfOk result (λ n. 0 < length bytes → 0 < n)
   pub appends : MatchResult result (λ n. now.written ≡ with_more before.written (take n bytes)) (λ _. now.written ≡ before.written)
+  pub calm : IfOk result (λ _. now.faults ≡ before.faults)
   pub never_falls : before.faults ≤ now.faults
   pub cause : OnErr result (Rose before.faults now.faults)

@@ -1,6 +1,6 @@
 -- What carries a request to a server and its reply back: whether it is straight, what it carried, where
 -- it tells that, and how often it has failed.
-use Rattle.std.specs.Prelude.{◌≡◌, ℕ, ◌≤◌, List, [], ◌∷◌, Option, Some, None, Result, Ok, Err, Bool, true}
+use Rattle.std.specs.Prelude.{◌≡◌, ℕ, ◌≤◌, List, [], ◌∷◌, Option, Some, None, Result, Ok, Err, IfOk, Bool, true}
 use Rattle.fr_edges.specs.declared.wire.Carried.{Carried}
 use Rattle.fr_edges.specs.declared.wire.CarryEnd.{CarryEnd}
 use Rattle.fr_edges.specs.declared.wire.CarryEnd.TheVariants as ends
@@ -30,11 +30,13 @@ Causes before now (Ok _) = Unit {0}
 Causes before now (Err ends.Lost) = Rose before now
 Causes before now (Err ends.NoMemory) = Unit {0}
 
--- A carry of a request and the reply to it, whose delivery is `out`.
+-- A carry of a request and the reply to it, whose delivery is `out`. A carry that delivers leaves the count of
+-- faults as it was.
 pub record Carries (before now : WireView) (request reply out : List ℕ) (result : Result (Unit {0}) CarryEnd) : Type 0 where
   pub kept : now.straight ≡ before.straight
   pub tells : now.carried ≡ with_more before.carried (entries request reply out result)
   pub through : before.straight ≡ true → Delivers reply out result
-  pub calm : before.straight ≡ true → now.faults ≡ before.faults
+  pub calm : IfOk result (λ _. now.faults ≡ before.faults)
+  pub straight_calm : before.straight ≡ true → now.faults ≡ before.faults
   pub never_falls : before.faults ≤ now.faults
   pub cause : Causes before.faults now.faults result

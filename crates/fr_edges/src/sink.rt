@@ -9,8 +9,9 @@ pub trait Sink {
 
     ghost view: { Self → SinkView };
 
-    /// Appends the first `n` of `bytes` and answers `n`, which is positive where there are any.
-    /// `Failed` comes only where the count of faults has risen, and appends nothing.
+    /// Appends the first `n` of `bytes` and answers `n`, which is positive where there are any. An `Ok`
+    /// leaves the count of faults as it was. `Failed` comes only where the count has risen, and appends
+    /// nothing.
     fn write(&mut self, bytes: &[u8]) -> Result<usize, Failed>
         ensures { Writes (view self.old) (view self.new) bytes.now result };
 }

@@ -12,8 +12,8 @@ pub trait Source {
     ghost view: { Self → SourceView };
 
     /// Moves the next `n` bytes into the front of `buf` and answers `n`; `0` for a buffer that isn't
-    /// empty is the end of input. `Failed` comes only where the count of faults has risen, and moves
-    /// nothing.
+    /// empty is the end of input. An `Ok` leaves the count of faults as it was. `Failed` comes only where
+    /// the count has risen, and moves nothing.
     fn read(&mut self, buf: &mut [u8]) -> Result<usize, Failed>
         ensures { Reads (view self.old) (view self.new) buf.new result };
 }

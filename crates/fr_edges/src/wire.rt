@@ -54,8 +54,8 @@ pub trait Wire: Drop {
 
     /// Carries `request` and the `reply` to it, and leaves in `out` what it delivers; `out` grows by
     /// its own allocator. A straight wire delivers the reply as it is, never answers `Lost` and never
-    /// raises its count. Of another wire nothing is known of `out`. `Lost` comes only where the count
-    /// has risen. After an `Err` `out` isn't to be read.
+    /// raises its count. Of another wire nothing is known of `out`. An `Ok` leaves the count as it was,
+    /// and `Lost` comes only where it has risen. After an `Err` `out` isn't to be read.
     fn carry(&mut self, request: &[u8], reply: &[u8], out: &mut Vec<u8>) -> Result<(), CarryEnd>
         ensures { Carries (view self.old) (view self.new) request.now reply.now out.new.items result };
 }

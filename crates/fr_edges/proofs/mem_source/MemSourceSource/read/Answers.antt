@@ -15,6 +15,7 @@ returns-clause-reads c =
       bound = omega (arith, c.give-n.ensures.room, count);
       moves = moves bytes c.give-n.new.buf taken n front;
       ends = λ none some. at_end bytes taken n piece room count c.args.self.now.positive none (omega (arith, c.give-n.ensures.room));
+      calm = ap (λ s. s.faults) c.count_call.ensures;
       never_falls = omega (arith, ap (λ s. s.faults) c.count_call.ensures);
       cause = tt;
     }
