@@ -1,5 +1,5 @@
 -- What a client asks for a command: nothing, with a reason, or a look, or an operation that it signs.
-use Rattle.std.specs.Prelude.{◌≡◌, ℕ, ◌+◌, ◌<◌, ◌≤◌, ◌^◌, Bool, not, ◌||◌, List, [], ◌∷◌, ◌++◌, replicate, Option, Some, None, is_some, nat_eq, if◌then◌else◌}
+use Rattle.std.specs.Prelude.{◌≡◌, ◌⊎◌, ℕ, ◌+◌, ◌<◌, ◌≤◌, ◌^◌, Bool, not, ◌||◌, List, [], ◌∷◌, ◌++◌, replicate, Option, Some, None, is_some, nat_eq, if◌then◌else◌}
 use Rattle.op_types.specs.declared.kind.Kind.{Kind}
 use Rattle.op_types.specs.declared.kind.Kind.TheVariants as kinds
 use Rattle.op_types.specs.declared.op.Op.{Op}
@@ -117,6 +117,11 @@ pub record IsReady (c : ClientView) : Type 0 where
 abbrev pub Asks : Known → ClientView → ClientView → Command → Asked → Type 0
 Asks known before now command (Declined decline) = (decline_of known before.user before.side command ≡ Some decline) × (now ≡ before)
 Asks known before now command (Sent request) = (decline_of known before.user before.side command ≡ None) × (request ≡ request_text (asked known before command)) × IsRequest (asked known before command) × (now ≡ having_asked known before command)
+
+-- After want of memory a client is as it was; or a number and a leaf of its signer are used up, and nothing
+-- else has changed: what it has accepted, its records, and the operations that it signed.
+abbrev pub IsAsBefore : ClientView → ClientView → Type 0
+IsAsBefore before now = (now ≡ before) ⊎ (now ≡ record before { signer = once_more before.signer; next = before.next + 1 })
 
 -- a client, as contracts see it
 abbrev pub client_view : Client → ClientView

@@ -1,9 +1,9 @@
-ghost use Rattle.std.specs.Prelude.{◌≡◌, ◌≤◌, [], Some, IfOk, IfSome};
+ghost use Rattle.std.specs.Prelude.{◌≡◌, ◌≤◌, [], Some, IfOk, OnErr, IfSome};
 ghost use Rattle.op_types.specs.declared.limits.TheConstants.{SEQ_MAX};
 ghost use Rattle.op_types.specs.Spelling.{IsKind, IsOp};
 ghost use Rattle.thin_form.specs.ThinMessages.{request_text};
 ghost use Rattle.thin_form.specs.ThinScript.{IsThinCommand};
-ghost use Rattle.thin_client.specs.Asking.{Asks, IsReady, asked, client_view, decline_of, having_asked, is_in, kind_of, no_view, op_of, signed_once};
+ghost use Rattle.thin_client.specs.Asking.{Asks, IsAsBefore, IsReady, asked, client_view, decline_of, having_asked, is_in, kind_of, no_view, op_of, signed_once};
 
 use crate::client::Client;
 use crate::side::Side;
@@ -84,7 +84,11 @@ fn kind_of(alloc: Global, command: &Command) -> Result<Option<Kind>, NoMemory>
 
 impl Client {
     /// Asks for a command: nothing, where the client declines it, or a request with the operation that
-    /// the client signs. A number and a signature that are used stay used.
+    /// the client signs.
+    ///
+    /// # Errors
+    /// `NoMemory`. Afterwards the client is as before, but that the operation's number and a leaf of the
+    /// signer may be used up; both stay used.
     #[tactic(auto, unfolding(crate::specs::Asking::asked, crate::specs::Asking::having_asked))]
     pub fn ask(
         &mut self,
@@ -94,7 +98,8 @@ impl Client {
     ) -> Result<Asked, NoMemory>
         requires command { IsThinCommand command.now }
         requires ready { IsReady (client_view self.old) }
-        ensures { IfOk result (Asks known.now (client_view self.old) (client_view self.new) command.now) }
+        ensures asks { IfOk result (Asks known.now (client_view self.old) (client_view self.new) command.now) }
+        ensures wanting { OnErr result (IsAsBefore (client_view self.old) (client_view self.new)) }
     {
         if let Some(decline) = decline_of(known, self.user, &self.side, command) {
             return Ok(Asked::Declined(decline));
@@ -112,6 +117,7 @@ impl Client {
         ensures request { IfOk result (λ bytes. bytes ≡ request_text (Request.Append (op_of known.now (client_view self.old) kind))) }
         ensures spelled { IfOk result (λ bytes. IsOp (op_of known.now (client_view self.old) kind)) }
         ensures client { IfOk result (λ bytes. client_view self.new ≡ signed_once known.now (client_view self.old) (Some kind)) }
+        ensures wanting { OnErr result (IsAsBefore (client_view self.old) (client_view self.new)) }
     {
         let op = unsigned(
             alloc,

@@ -1,4 +1,4 @@
-ghost use Rattle.std.specs.Prelude.{◌≡◌, ◌+◌, ◌<◌, ◌≤◌, ◌^◌, ◌++◌, ◌∷◌, [], drop, length, IfOk};
+ghost use Rattle.std.specs.Prelude.{◌≡◌, ◌+◌, ◌<◌, ◌≤◌, ◌^◌, ◌++◌, ◌∷◌, [], drop, length, IfOk, OnErr};
 ghost use Rattle.std.specs.Option.{option_copied};
 ghost use Rattle.thin_client.specs.Asking.{client_view};
 ghost use Rattle.thin_client.specs.Hearing.{IsAhead, Tells, end_of, having_heard, having_judged, shown_at, shown_from, shown_of, what_of};
@@ -26,6 +26,9 @@ impl Client {
     /// Judges what was delivered for a request, or that nothing was, and keeps what follows: a taken
     /// reply is recorded, and its leaves are accepted; after any other judgement all that the client has
     /// accepted stays.
+    ///
+    /// # Errors
+    /// `NoMemory`. Afterwards the client is as before.
     pub fn hear<D: Digester>(
         &mut self,
         alloc: Global,
@@ -35,6 +38,7 @@ impl Client {
     ) -> Result<Heard, NoMemory>
         ensures tells { IfOk result (Tells D.digest_of known.now (client_view self.old).side request.now (option_copied delivered.entry)) }
         ensures keeps { IfOk result (λ heard. client_view self.new ≡ having_heard D.digest_of known.now (client_view self.old) request.now (option_copied delivered.entry)) }
+        ensures unchanged { OnErr result (client_view self.new ≡ client_view self.old) }
     {
         let judgement = judge::<D>(alloc, known, &self.side, request, delivered)?;
         self.keep(alloc, judgement)
@@ -46,6 +50,7 @@ impl Client {
         ensures end { IfOk result (λ heard. heard.end ≡ end_of self.old.side judgement) }
         ensures shown { IfOk result (λ heard. heard.shown ≡ shown_of self.old.side judgement) }
         ensures keeps { IfOk result (λ heard. client_view self.new ≡ having_judged (client_view self.old) judgement) }
+        ensures unchanged { OnErr result (client_view self.new ≡ client_view self.old) }
     {
         match judgement {
             Judgement::Lost => Ok(bare(alloc, CommandEnd::Lost)),
@@ -72,6 +77,7 @@ impl Client {
         ensures end { IfOk result (λ heard. heard.end ≡ end_of self.old.side (Judgement.Takes leaves root state)) }
         ensures shown { IfOk result (λ heard. heard.shown ≡ shown_of self.old.side (Judgement.Takes leaves root state)) }
         ensures keeps { IfOk result (λ heard. client_view self.new ≡ having_judged (client_view self.old) (Judgement.Takes leaves root state)) }
+        ensures unchanged { OnErr result (client_view self.new ≡ client_view self.old) }
     {
         let from = self.side.have;
         let size = leaves.len() as u64;
