@@ -31,7 +31,7 @@ use Rattle.frient_run.proofs.AuditLemmas.{signs-asked}
 use Rattle.frient_run.specs.Fixture.{users, start, pair}
 use Rattle.frient_run.specs.Lane.{Placed, Heard, Exchange, after, after_or, next_place, placed_behind, placed, nowhere, ask_of, RunState, RunSoFar, Turned, Step, LineRun, run_state}
 use Rattle.frient_run.proofs.Commands.{after-few}
-use Rattle.frient_run.proofs.Runs.{starts, one_more}
+use Rattle.frient_run.proofs.Runs.{RanUpTo, starts, one_more}
 
 -- ---- clients that have room for more operations
 
@@ -126,7 +126,7 @@ turned-few d known leaves leaves' (x ∷ xs) t = rw t.0 (after-few d known leave
 pub record Running (d : List ℕ → List ℕ) (known : Known) (wire : WireView) (lines : List Line) (i : ℕ) (place : Place) (before : ℕ) (now : RunState) : Type 0 where
   pub done : List Placed
   pub split : done ++ placed_behind place before (drop i lines) ≡ placed lines
-  pub run : RunSoFar d known start wire now done
+  pub ran : RanUpTo d known start wire now done place.phase
   pub few : length now.leaves ≤ i
   pub phase : place.phase ≤ i
   pub command : place.command ≤ i
@@ -141,7 +141,7 @@ pub begins : (d : List ℕ → List ℕ) (known : Known) (wire : WireView) (line
 begins d known wire lines now clients outcomes leaves same = record {
   done = [];
   split = refl;
-  run = subst (λ (s : RunState). RunSoFar d known start wire s []) (rw (clients, outcomes, leaves, same) refl) (starts d known start wire);
+  ran = subst (λ (s : RunState). RanUpTo d known start wire s [] 0) (rw (clients, outcomes, leaves, same) refl) (starts d known start wire);
   few = rw leaves (omega arith);
   phase = omega arith;
   command = omega arith;
@@ -155,6 +155,13 @@ next-most place before user i p c = elim (nat_eq user before) as (λ b. ((cond {
   | false ↦ (omega arith, omega arith)
 ]
 
+-- the next command is in the same phase or in the next one
+phase-rises : (place : Place) (before user : ℕ) → place.phase ≤ (next_place place before user).phase
+phase-rises place before user = elim (nat_eq user before) as (λ b. place.phase ≤ (cond {A = Place} b (record { phase = place.phase; session = 1; command = place.command + 1 }) (record { phase = place.phase + 1; session = 1; command = 1 })).phase) [
+  | true ↦ omega arith
+  | false ↦ omega arith
+]
+
 pub goes_on : (d : List ℕ → List ℕ) (known : Known) (wire : WireView) (lines : List Line) (i : ℕ) (place place' : Place) (before : ℕ) (now now' : RunState) (line : Line) → Running d known wire lines i place before now → i < length lines → line ≡ get_or lines i line → IsUser line.user
     → place' ≡ next_place place before line.user → LineRun d known now now' (record { place = place'; user = line.user; command = line.command }) → Running d known wire lines (i + 1) place' line.user now'
 goes_on d known wire lines i place place' before now now' line r lt e user placed_at l =
@@ -164,11 +171,12 @@ goes_on d known wire lines i place place' before now now' line r lt e user place
     let front : placed_behind place before (drop i lines) ≡ p ∷ placed_behind place' line.user rest =
     ap (placed_behind place before) next ∙ ap (λ (q : Place). record { place = q; user = line.user; command = line.command } ∷ placed_behind q line.user rest) (sym placed_at) in
     let bounds = next-most place before line.user i r.phase r.command in
-    let run = one_more d known start wire now r.done p l.c l.c' now'.leaves now'.wire l.outcome r.run user.0 user.1 l.at l.step in
+    let late : place.phase ≤ place'.phase = rw placed_at (phase-rises place before line.user) in
+    let ran = one_more d known start wire now r.done place.phase p l.c l.c' now'.leaves now'.wire l.outcome r.ran late user.0 user.1 l.at l.step in
     record {
       done = r.done ++ p ∷ [];
       split = append_assoc r.done (p ∷ []) (placed_behind place' line.user rest) ∙ ap (λ (ps : List Placed). r.done ++ ps) (sym front) ∙ r.split;
-      run = subst (λ (s : RunState). RunSoFar d known start wire s (r.done ++ p ∷ [])) (rw (l.clients, l.outcomes) refl) run;
+      ran = subst (λ (s : RunState). RanUpTo d known start wire s (r.done ++ p ∷ []) place'.phase) (rw (l.clients, l.outcomes) refl) ran;
       few = let grown = turned-few d known now.leaves now'.leaves _ l.step.turned in let before_few = r.few in omega arith;
       phase = rw placed_at bounds.0;
       command = rw placed_at bounds.1;
@@ -181,7 +189,7 @@ pub is_done : (d : List ℕ → List ℕ) (known : Known) (wire : WireView) (lin
 is_done d known wire lines i place before now r le =
     let over : drop i lines ≡ [] = nil_from_length (drop i lines) (omega (arith, length-drop i lines)) in
     let all : r.done ≡ placed lines = sym (append-nil r.done) ∙ ap (λ (ls : List Line). r.done ++ placed_behind place before ls) (sym over) ∙ r.split in
-    subst (λ (ps : List Placed). RunSoFar d known start wire now ps) all r.run
+    subst (λ (ps : List Placed). RunSoFar d known start wire now ps) all r.ran.run
 
 pub line-at : (lines : List Line) (i : ℕ) (line : Line) → AllByRecursion IsThinLine lines → i < length lines → line ≡ get_or lines i line → IsThinLine line
 line-at [] i line each lt e = absurd (omega arith)

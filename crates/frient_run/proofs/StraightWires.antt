@@ -16,9 +16,11 @@ use Rattle.thin_hall.specs.declared.ask.Ask.{Ask}
 use Rattle.thin_hall.specs.declared.ask.Answer.{Answer}
 use Rattle.thin_hall.specs.declared.ask.Cause.{Cause}
 use Rattle.signed_ops.specs.Honest.{IsHonest}
-use Rattle.thin_hall.specs.Wall.{Begins, answer_to, leaves_after, added_or, placed_or, leaf_of, refused_by}
+use Rattle.fr_bytes.specs.History.{Begins}
+use Rattle.fr_bytes.proofs.HistoryLaws.{begins_itself, begins_then}
+use Rattle.thin_hall.specs.Wall.{answer_to, leaves_after, added_or, placed_or, leaf_of, refused_by}
 use Rattle.thin_hall.specs.Turns.{Called, Turn, LegalFrom, left_by, turns_from}
-use Rattle.thin_hall.proofs.TurnLaws.{begins-same, begins-through, after-grows, after-honest, honest-nil}
+use Rattle.thin_hall.proofs.TurnLaws.{left-grows, left-by-answer, left-honest, after-honest, honest-nil}
 use Rattle.thin_form.specs.declared.outcome.Decline.{Decline}
 use Rattle.thin_form.specs.declared.outcome.Outcome.{Outcome}
 use Rattle.thin_form.specs.declared.messages.Request.{Request}
@@ -89,7 +91,7 @@ record NextTurn (d : List ℕ → List ℕ) (known : Known) (user : ℕ) (leaves
   grows : Begins leaves before
   honest : IsHonest d known before
   answer : call.answer ≡ answer_to known before call.ask
-  serves : Serves x (record { call = call; leaves = left_by d known before call })
+  serves : Serves x (record { call = call; left = left_by d known before call })
   legal : LegalFrom d known (left_by d known before call) calls
   rest : AllZip Serves xs (turns_from d known user (left_by d known before call) calls)
 
@@ -98,7 +100,7 @@ next-after d known user leaves call x xs next = record {
   before = next.before;
   call = next.call;
   calls = next.calls;
-  grows = begins-through leaves (left_by d known leaves call) next.before (after-grows d known leaves call.ask) next.grows;
+  grows = begins_then leaves (left_by d known leaves call) next.before (left-grows d known leaves call.ask call.answer) next.grows;
   honest = next.honest;
   answer = next.answer;
   serves = next.serves;
@@ -110,20 +112,20 @@ next-turn : (d : List ℕ → List ℕ) (known : Known) (user : ℕ) (leaves : L
 next-turn d known user leaves [] x xs legal honest served = absurd served
 next-turn d known user leaves (call ∷ calls) x xs legal honest served =
     let behind = left_by d known leaves call in
-    let turn : Turn = record { call = call; leaves = behind } in
+    let turn : Turn = record { call = call; left = behind } in
     (elim (nat_eq call.caller user) as (λ b. AllZip Serves (x ∷ xs) (cond b (turn ∷ []) [] ++ turns_from d known user behind calls) → NextTurn d known user leaves x xs) [
       | true ↦ λ own. record {
         before = leaves;
         call = call;
         calls = calls;
-        grows = begins-same leaves;
+        grows = begins_itself leaves;
         honest = honest;
         answer = legal.0;
         serves = own.0;
         legal = legal.1;
         rest = own.1;
       }
-      | false ↦ λ others. next-after d known user leaves call x xs (next-turn d known user behind calls x xs legal.1 (after-honest d known leaves call.ask honest) others)
+      | false ↦ λ others. next-after d known user leaves call x xs (next-turn d known user behind calls x xs legal.1 (left-honest d known leaves call legal.0 honest) others)
     ]) served
 
 follows-grown : (d : List ℕ → List ℕ) (known : Known) (leaves grown : List Leaf) (side : Side) → Begins leaves grown → Follows d known leaves side → Follows d known grown side
@@ -137,10 +139,12 @@ turn-heard d known user leaves side x xs next follows =
     let before = next.before in
     let call = next.call in
     let reply = x.carried.reply in
-    let told : Replies reply (leaves_after d known before call.ask) (answer_to known before call.ask) = subst (λ (a : Answer). Replies reply (leaves_after d known before call.ask) a) next.answer next.serves.replies in
+    let left : left_by d known before call ≡ leaves_after d known before call.ask = left-by-answer d known before call next.answer in
+    let told : Replies reply (leaves_after d known before call.ask) (answer_to known before call.ask) = subst (λ (ls : List Leaf). Replies reply ls (answer_to known before call.ask)) left (subst (λ (a : Answer). Replies reply (left_by d known before call) a) next.answer next.serves.replies) in
     let replies : Replies reply (leaves_after d known before (ask_of x.ask)) (answer_to known before (ask_of x.ask)) = subst (λ (a : Ask). Replies reply (leaves_after d known before a) (answer_to known before a)) next.serves.asks told in
-    subst (λ (a : Ask). StaysWith d known (leaves_after d known before a) side (judged d known side (request_text x.ask) (Some reply))) (sym next.serves.asks)
-    (reply-heard d known before side x.ask reply next.honest (follows-grown d known leaves before side next.grows follows) replies)
+    let stays = reply-heard d known before side x.ask reply next.honest (follows-grown d known leaves before side next.grows follows) replies in
+    subst (λ (ls : List Leaf). StaysWith d known ls side (judged d known side (request_text x.ask) (Some reply))) (sym left)
+    (subst (λ (a : Ask). StaysWith d known (leaves_after d known before a) side (judged d known side (request_text x.ask) (Some reply))) (sym next.serves.asks) stays)
 
 -- no command of a client fails whose commands these are
 abbrev NoneFails : (List ℕ → List ℕ) → Known → ℕ → List Heard → Type 0
@@ -157,7 +161,7 @@ sent-none d known user leaves c c' hs x none side follows delivery straight next
     ap (λ (b : Bool). b || any_failed (outcomes_of (dids d known c' hs))) stays.stands
     ∙ none behind next.calls c' (record {
       legal = next.legal;
-      honest = after-honest d known next.before next.call.ask next.honest;
+      honest = left-honest d known next.before next.call next.answer next.honest;
       follows = subst (Follows d known behind) (sym side) stays.follows;
       served = next.rest;
       straight = straight;

@@ -43,12 +43,12 @@ IsRun words = words ≡ codes "run" ∷ []
 abbrev pub most_script : ℕ
 most_script = 4194304
 
--- These bytes were read: all that the source held, or more than a script may have.
+-- These bytes were read, and no read failed: all that the source held, or more than a script may have.
 pub record Fed (before now : SourceView) (bytes : List ℕ) : Type 0 where
   pub moved : before.left ≡ with_front bytes now.left
   pub complete : IfSome now.left (λ rest. rest ≡ []) ⊎ (most_script < length bytes)
   pub bound : length bytes ≤ most_script + 1
-  pub never_falls : before.faults ≤ now.faults
+  pub calm : now.faults ≡ before.faults
 
 -- ---- statuses
 
@@ -192,14 +192,15 @@ signed_of_fate (fates.Whole told) = told.signed
 signed_of_fate (fates.Refused refusal) = []
 signed_of_fate fates.Unread = []
 
--- The whole text was written; or a write failed, and what was written is a part of its front.
+-- The whole text was written, and no write failed; or a write failed, and what was written is a part of its
+-- front.
 abbrev pub Spoke : SinkView → SinkView → List ℕ → ℕ → ℕ → Type 0
 Spoke before now text want status =
-    ((status ≡ want) × (now.written ≡ with_more before.written text))
+    ((status ≡ want) × (now.faults ≡ before.faults) × (now.written ≡ with_more before.written text))
     ⊎ ((status ≡ 3) × Rose before.faults now.faults × ((n : ℕ) × (n < length text) × (now.written ≡ with_more before.written (take n text))))
 
--- How a call ends: for want of memory, with nothing written and nothing handed out; or by its fate.
+-- How a call ends: for want of memory, with no write made and nothing handed out; or by its fate.
 abbrev pub Ends : (List ℕ → List ℕ) → List (List ℕ) → SourceView → SourceView → SinkView → SinkView → List WireView → List WireView → ℕ → List ThinTook → List (ℕ × Op) → Type 0
 Ends d words source source' sink sink' wires wires' status records signed =
-    ((status ≡ 6) × (sink'.written ≡ sink.written) × (records ≡ []) × (signed ≡ []))
+    ((status ≡ 6) × (sink' ≡ sink) × (records ≡ []) × (signed ≡ []))
     ⊎ ((fate : Fate) × Happened d words source source' wires wires' fate × Spoke sink sink' (text_of fate) (wanted fate) status × (records ≡ records_of_fate fate) × (signed ≡ signed_of_fate fate))

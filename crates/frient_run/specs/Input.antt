@@ -11,14 +11,14 @@ Reads before now (Ok bytes) = Fed before now bytes
 Reads before now (Err inputs.Failed) = Rose before.faults now.faults × (before.faults ≤ now.faults)
 Reads before now (Err inputs.NoMemory) = Unit {0}
 
--- a piece of n bytes that was read behind the others; none is the end
+-- a piece of n bytes that was read behind the others, and no read failed; none is the end
 pub record Piece (before now : SourceView) (old new : List ℕ) (n : ℕ) : Type 0 where
   pub bytes : List ℕ
   pub appended : new ≡ old ++ bytes
   pub len : length bytes ≡ n
   pub moved : before.left ≡ with_front bytes now.left
   pub ends : n ≡ 0 → IfSome now.left (λ rest. rest ≡ [])
-  pub never_falls : before.faults ≤ now.faults
+  pub calm : now.faults ≡ before.faults
 
 abbrev pub ReadsPiece : SourceView → SourceView → ℕ → List ℕ → List ℕ → Result ℕ InputEnd → Type 0
 ReadsPiece before now room old new (Ok n) = (n ≤ room) × Piece before now old new n

@@ -3,6 +3,7 @@
 use Rattle.std.specs.Prelude.{◌≡◌, ℕ, ◌+◌, ◌≤◌, ◌<◌, ◌^◌, List, [], ◌∷◌, ◌++◌, map, fold, filter, Option, Some, None, IfSome, Bool, true, nat_eq, if◌then◌else◌, slice_get, slice_set, ◌-◌}
 use Rattle.std.specs.List.{scan, flat_map, AllByRecursion, AllZip}
 use Rattle.fr_bytes.specs.Bytes.{IsBytes}
+use Rattle.fr_bytes.specs.History.{own}
 use Rattle.fr_edges.specs.declared.wire.Carried.{Carried}
 use Rattle.fr_edges.specs.Faults.{Rose}
 use Rattle.fr_edges.specs.Sink.{with_more}
@@ -149,6 +150,30 @@ exchanges_of ds = flat_map (λ (x : Did). x.exchanges) ds
 abbrev pub outcomes_of : List Did → List Outcome
 outcomes_of ds = map (λ (x : Did). x.outcome) ds
 
+-- ---- the order of calls
+
+-- a call on the wall, and the phase of the command that made it
+pub record Timed : Type 0 where
+  pub phase : ℕ
+  pub call : Called
+
+-- the phase of each exchange of these commands
+abbrev pub exchange_phases : List Did → List ℕ
+exchange_phases ds = flat_map (λ (x : Did). map (λ (e : Exchange). x.outcome.place.phase) x.exchanges) ds
+
+abbrev pub NeverFall : List ℕ → Type 0
+NeverFall [] = Unit {0}
+NeverFall (p ∷ ps) = AllByRecursion (λ (q : ℕ). p ≤ q) ps × NeverFall ps
+
+-- Each call has the phase of the command that made it, a user's calls being made by the user's exchanges in
+-- order; and along the calls the phase never falls.
+pub record Ordered (d : List ℕ → List ℕ) (known : Known) (start : ℕ → ClientView) (heards : List Heard) (calls : List Called) : Type 0 where
+  pub timed : List Timed
+  pub whole : map (λ (t : Timed). t.call) timed ≡ calls
+  pub made : (user : ℕ) → map (λ (t : Timed). t.phase) (own (λ (t : Timed). t.call.caller) user timed)
+      ≡ exchange_phases (dids d known (start user) (stream user heards))
+  pub rise : NeverFall (map (λ (t : Timed). t.phase) timed)
+
 -- ---- the wall's half
 
 -- what is asked of the wall
@@ -184,7 +209,7 @@ IsSpelled x = x.carried.request ≡ request_text x.ask
 pub record Serves (x : Exchange) (t : Turn) : Type 0 where
   pub asks : t.call.ask ≡ ask_of x.ask
   pub request : IsSpelled x
-  pub replies : Replies x.carried.reply t.leaves t.call.answer
+  pub replies : Replies x.carried.reply t.left t.call.answer
 
 -- ---- the wire's half
 
@@ -213,7 +238,8 @@ pub record RunState : Type 0 where
   pub wire : WireView
 
 -- These commands ran, from clients who had done nothing and an empty wall: each client is its user's,
--- the wall answered the calls one after the other, and each user's exchanges are the user's turns.
+-- the wall answered the calls one after the other, phase after phase, and each user's exchanges are the
+-- user's turns.
 pub record RunSoFar (d : List ℕ → List ℕ) (known : Known) (start : ℕ → ClientView) (before : WireView) (now : RunState) (commands : List Placed) : Type 0 where
   pub heards : List Heard
   pub calls : List Called
@@ -223,6 +249,7 @@ pub record RunSoFar (d : List ℕ → List ℕ) (known : Known) (start : ℕ →
   pub knows : now.clients ≡ map (λ (user : ℕ). client_of d known start user heards) users
   pub legal : Legal d known calls
   pub listed : now.leaves ≡ play d known calls
+  pub ordered : Ordered d known start heards calls
   pub served : (user : ℕ) → AllZip Serves (exchanges_of (dids d known (start user) (stream user heards))) (turns d known user calls)
   pub wire : WireHalf before now.wire (exchanges_of (all_dids d known start heards))
 

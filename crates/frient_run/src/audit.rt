@@ -8,11 +8,11 @@ ghost use Rattle.frient_run.specs.Audit.{audit_of, compared_line, differs, first
 ghost use Rattle.frient_run.specs.Auditing.{IsChained, LinksTexts, Says, SignsOps, first_line, lacks, ops_of, signed_texts, texts_difference};
 ghost use Rattle.thin_client.specs.Records.{Chained};
 
-use thin_client::{Client, Took};
 use fr_bytes::{Bytes, NoMemory, Texts};
 use fr_digest::{Clash, Digester};
 use op_types::{Leaf, Op, op_part, write_op};
 use std::alloc::Global;
+use thin_client::{Client, Took};
 use thin_form::AuditLine;
 use tree_extract::slice_clash;
 

@@ -7,7 +7,7 @@ use crate::record::{ThinSigned, ThinTooks};
 /// | 0 | otherwise | the report |
 /// | 1 | where a command was rejected or lost, and the audit found nothing | the report |
 /// | 2 | where words or script are refused | one line |
-/// | 3 | where the source or the sink failed | a part of the front of what would be written |
+/// | 3 | exactly where a read or a write failed | a part of the front of what would be written |
 /// | 4 | where the audit found a collision, and no forgery | the report with both strings |
 /// | 5 | where the audit found a forgery | the report with the user and the operation |
 /// | 6 | for want of memory | nothing |

@@ -2,12 +2,12 @@ ghost use Rattle.std.specs.Prelude.{◌≡◌, ◌≤◌, ◌∷◌, ◌++◌, [
 ghost use Rattle.thin_client.specs.Asking.{client_view};
 ghost use Rattle.frient_run.specs.Fixture.{fixture, id_of, key_for, pair, private_of, start, users};
 
-use thin_client::Client;
 use fr_bytes::{NoMemory, Sequence};
 use lms_params::{LmsRow, OtsRow, Pair};
 use lms_tree::{MakeRefusal, PublicKey, Signer, UserKeys};
 use signed_ops::Known;
 use std::alloc::Global;
+use thin_client::Client;
 
 /// The number of the wall.
 const WALL: u32 = 1;

@@ -6,15 +6,15 @@ ghost use Rattle.thin_form.specs.ThinScript.{IsThinCommand};
 ghost use Rattle.frient_run.specs.Lane.{Carries, Exchanged, Step, declined_outcome};
 
 use crate::server::answer;
-use thin_client::{Asked, Client};
 use fr_bytes::{Bytes, NoMemory, Sequence};
 use fr_digest::Digester;
 use fr_edges::{CarryEnd, Wire};
-use thin_hall::Hall;
 use op_types::laws;
 use signed_ops::Known;
 use std::alloc::Global;
+use thin_client::{Asked, Client};
 use thin_form::{CommandEnd, Decline, Line, Outcome, Place};
+use thin_hall::Hall;
 
 // What the wire delivers for a request and the reply to it, or that it lost them.
 fn delivered_by<W: Wire>(

@@ -8,14 +8,14 @@ ghost use Rattle.frient_run.specs.Fixture.{fixture, start, users};
 ghost use Rattle.frient_run.specs.Lane.{LineRun, RunSoFar, next_place, placed, run_state};
 
 use crate::lane::run_command;
-use thin_client::Client;
 use fr_bytes::NoMemory;
 use fr_digest::Digester;
 use fr_edges::Wire;
-use thin_hall::Hall;
 use signed_ops::Known;
 use std::alloc::Global;
+use thin_client::Client;
 use thin_form::{Line, Outcome, Place};
+use thin_hall::Hall;
 
 /// The clients of the users, in rising order, the outcomes of their commands, and the wall.
 #[derive(Drop)]

@@ -5,10 +5,10 @@ ghost use Rattle.frient_run.specs.Lane.{Answered, Replies, ask_of, law_cause, to
 
 use fr_bytes::{Bytes, NoMemory, ReadRefusal};
 use fr_digest::Digester;
-use thin_hall::{Answer, Ask, Cause, Hall};
 use op_types::WrittenLeaves;
 use std::alloc::Global;
 use thin_form::{Request, read_request, write_refusal, write_whole};
+use thin_hall::{Answer, Ask, Cause, Hall};
 use wall_law::LawRefusal;
 
 /// Answers a request over the wall: with all of its leaves, or with the refusal of an operation.

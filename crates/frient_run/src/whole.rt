@@ -14,15 +14,15 @@ use crate::fate::Told;
 use crate::fixture::begin;
 use crate::record::{ThinSigned, ThinTook, ThinTooks};
 use crate::run::Run;
-use thin_client::{Client, Took};
 use fr_bytes::NoMemory;
 use fr_digest::Digester;
 use fr_edges::Wire;
-use thin_hall::Hall;
 use op_types::{Op, WrittenLeaves};
 use std::alloc::Global;
+use thin_client::{Client, Took};
 use thin_form::report::report;
 use thin_form::{AuditLine, CommandEnd, Line, Outcome, WallEnd};
+use thin_hall::Hall;
 use tree_model::root_of;
 
 /// Runs the lines over the first wire, audits the run and makes its report.

@@ -52,10 +52,17 @@ unfoldable pub leaves_after : (List ℕ → List ℕ) → Known → List Leaf �
 leaves_after d known leaves Look = leaves
 leaves_after d known leaves (Append op) = added_or leaves (leaf_of d (state_of known.owner leaves) op) (refused_by known leaves op)
 
--- the list `all` begins with the list `front`
-pub record Begins (front all : List Leaf) : Type 0 where
-  pub more : List Leaf
-  pub whole : all ≡ front ++ more
+-- The list that an answer to an operation leaves: one that was placed stands at the end, and all else leaves
+-- the list as it was.
+abbrev pub with_placed : (List ℕ → List ℕ) → Known → List Leaf → Op → Answer → List Leaf
+with_placed d known leaves op (Placed position) = leaves ++ leaf_of d (state_of known.owner leaves) op ∷ []
+with_placed d known leaves op (Looked size) = leaves
+with_placed d known leaves op (Refused cause) = leaves
+
+-- the list that an answer leaves
+abbrev pub left_behind : (List ℕ → List ℕ) → Known → List Leaf → Ask → Answer → List Leaf
+left_behind d known leaves Look answer = leaves
+left_behind d known leaves (Append op) answer = with_placed d known leaves op answer
 
 -- ---- a hall
 
