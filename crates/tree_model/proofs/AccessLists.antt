@@ -1,6 +1,6 @@
 -- The laws of access lists: sets as lists whose users rise, the entry of greatest priority, and digests.
 use Rattle.std.proofs.Common.{◌≡◌, ◌⊎◌, ℕ, zero, suc, ◌+◌, ◌<◌, ◌≤◌, Bool, true, false, cond, ltb, List, [], ◌∷◌, length, take, drop, Option, Some, None, get_or, refl, ap, sym, subst, ◌∙◌, inl, inr, add-one, arith}
-use Rattle.std.specs.Prelude.{filter, slice_get}
+use Rattle.std.specs.Prelude.{filter, slice_get, unwrap_or}
 use Rattle.std.specs.List.{AllByRecursion}
 use Rattle.std.proofs.lemmas.Bool.{lt-ltb, le-ltb}
 use Rattle.tree_model.specs.declared.entry.Entry.{Entry}
@@ -205,3 +205,12 @@ pub length-dict : (d : List ℕ → List ℕ) → ((m : List ℕ) → IsDigest (
 unfolding dict
 length-dict d sized [] some = absurd (omega arith)
 length-dict d sized (e ∷ es) some = let node = set_digest-cons d e es in rw node (sized _)
+
+some_is : (x : Option (List ℕ)) → (x ≡ None → ⊥) → x ≡ Some (unwrap_or x [])
+some_is None some = absurd (some refl)
+some_is (Some y) some = refl
+
+-- the digest of a set that isn't empty is that of the access list
+pub set_digest-dict : (d : List ℕ → List ℕ) (es : List Entry) → 0 < length es → set_digest d es ≡ Some (dict d es)
+unfolding dict
+set_digest-dict d es some = some_is (set_digest d es) (set_digest-some d es some)

@@ -1,7 +1,11 @@
 pub mod AccessLists
+pub mod Filters
 pub mod HistoryLaws
 pub mod ListChanges
 pub mod LookUps
 pub mod Members
+pub mod NodeStrings
+pub mod Parts
 pub mod Priorities
+pub mod Tops
 pub mod Treaps

@@ -4,30 +4,30 @@ use Rattle.std.specs.Prelude.{filter, nat_eq, not}
 use Rattle.std.specs.List.{AllByRecursion}
 use Rattle.std.proofs.lemmas.Bool.{lt-ltb, le-ltb, cases_lt}
 use Rattle.tree_model.specs.declared.entry.Entry.{Entry}
-use Rattle.tree_model.specs.AccessList.{IsRising, smaller, greater, ListChange, stays, adds, drops, with_next, with_entry, change_by, changed_set}
+use Rattle.tree_model.specs.AccessList.{IsRising, smaller, greater, ListChange, stays, adds, drops, numbered, with_next, with_entry, change_by, changed_set}
 
 -- ---- what holds of each entry
 
-All-filter : (P : Entry → Type 0) (p : Entry → Bool) (es : List Entry) → AllByRecursion P es → AllByRecursion P (filter p es)
+pub All-filter : (P : Entry → Type 0) (p : Entry → Bool) (es : List Entry) → AllByRecursion P es → AllByRecursion P (filter p es)
 All-filter P p [] all = tt
 All-filter P p (e ∷ es) all = elim (p e) as (λ b. AllByRecursion P (cond b (e ∷ filter p es) (filter p es))) [ true ↦ (all.0, All-filter P p es all.1) | false ↦ All-filter P p es all.1 ]
 
-All-append : (P : Entry → Type 0) (xs ys : List Entry) → AllByRecursion P xs → AllByRecursion P ys → AllByRecursion P (xs ++ ys)
+pub All-append : (P : Entry → Type 0) (xs ys : List Entry) → AllByRecursion P xs → AllByRecursion P ys → AllByRecursion P (xs ++ ys)
 All-append P [] ys all all' = all'
 All-append P (x ∷ xs) ys all all' = (all.0, All-append P xs ys all.1 all')
 
-All-weaker : (P Q : Entry → Type 0) → ((x : Entry) → P x → Q x) → (es : List Entry) → AllByRecursion P es → AllByRecursion Q es
+pub All-weaker : (P Q : Entry → Type 0) → ((x : Entry) → P x → Q x) → (es : List Entry) → AllByRecursion P es → AllByRecursion Q es
 All-weaker P Q weaker [] all = tt
 All-weaker P Q weaker (e ∷ es) all = (weaker e all.0, All-weaker P Q weaker es all.1)
 
-smaller-each : (user : ℕ) (es : List Entry) → AllByRecursion (λ (x : Entry). x.user < user) (smaller user es)
+pub smaller-each : (user : ℕ) (es : List Entry) → AllByRecursion (λ (x : Entry). x.user < user) (smaller user es)
 smaller-each user [] = tt
 smaller-each user (e ∷ es) = elim (cases_lt e.user user) [
   | inl less ↦ rw (lt-ltb e.user user less) (less, smaller-each user es)
   | inr not_less ↦ rw (le-ltb e.user user not_less) (smaller-each user es)
 ]
 
-greater-each : (user : ℕ) (es : List Entry) → AllByRecursion (λ (x : Entry). user < x.user) (greater user es)
+pub greater-each : (user : ℕ) (es : List Entry) → AllByRecursion (λ (x : Entry). user < x.user) (greater user es)
 greater-each user [] = tt
 greater-each user (e ∷ es) = elim (cases_lt user e.user) [
   | inl less ↦ rw (lt-ltb user e.user less) (less, greater-each user es)
@@ -44,7 +44,7 @@ rising-filter p (e ∷ es) h = elim (p e) as (λ b. IsRising (cond b (e ∷ filt
 ]
 
 -- a list, a greater user, and a list of still greater ones
-rising-around : (xs : List Entry) (e : Entry) (ys : List Entry) → IsRising xs → AllByRecursion (λ (x : Entry). x.user < e.user) xs → AllByRecursion (λ (x : Entry). e.user < x.user) ys → IsRising ys → IsRising ((xs ++ e ∷ []) ++ ys)
+pub rising-around : (xs : List Entry) (e : Entry) (ys : List Entry) → IsRising xs → AllByRecursion (λ (x : Entry). x.user < e.user) xs → AllByRecursion (λ (x : Entry). e.user < x.user) ys → IsRising ys → IsRising ((xs ++ e ∷ []) ++ ys)
 rising-around [] e ys hx below above hy = (above, hy)
 rising-around (x ∷ xs) e ys hx below above hy =
     let further = All-weaker (λ (y : Entry). e.user < y.user) (λ (y : Entry). x.user < y.user) (λ y h. let first = below.0 in omega arith) ys above in
@@ -53,11 +53,8 @@ rising-around (x ∷ xs) e ys hx below above hy =
 pub rising-with_entry : (e : Entry) (es : List Entry) → IsRising es → IsRising (with_entry e es)
 rising-with_entry e es h = rising-around (smaller e.user es) e (greater e.user es) (rising-filter (λ (x : Entry). ltb x.user e.user) es h) (smaller-each e.user es) (greater-each e.user es) (rising-filter (λ (x : Entry). ltb e.user x.user) es h)
 
-abbrev numbered : ℕ → ℕ → Entry → Entry
-numbered user next e = cond (nat_eq e.user user) (record { user = e.user; role = e.role; next = next }) e
-
-numbered-user : (user next : ℕ) (e : Entry) → (numbered user next e).user ≡ e.user
-numbered-user user next e = elim (nat_eq e.user user) as (λ b. (cond b (record { user = e.user; role = e.role; next = next }) e).user ≡ e.user) [ true ↦ refl | false ↦ refl ]
+pub numbered-user : (user next : ℕ) (e : Entry) → (numbered user next e).user ≡ e.user
+numbered-user user next e = elim (nat_eq e.user user) as (λ b. (cond b (record e { next = next }) e).user ≡ e.user) [ true ↦ refl | false ↦ refl ]
 
 All-numbered : (user next u : ℕ) (es : List Entry) → AllByRecursion (λ (x : Entry). u < x.user) es → AllByRecursion (λ (x : Entry). u < x.user) (with_next user next es)
 All-numbered user next u [] all = tt

@@ -1,15 +1,14 @@
 -- A set has one treap, and the digest of a set is that of its treap.
-use Rattle.std.proofs.Common.{◌≡◌, ◌≢◌, ℕ, zero, suc, ◌<◌, ◌≤◌, Bool, true, false, cond, ltb, List, [], ◌∷◌, ◌++◌, length, take, drop, Option, Some, None, refl, ap, sym, subst, ◌∙◌, inl, inr, arith}
-use Rattle.std.specs.Prelude.{slice_get, filter, unwrap_or}
-use Rattle.std.specs.List.{AllByRecursion}
-use Rattle.std.proofs.lemmas.Bool.{lt-ltb, le-ltb, ltb-true, cases_Bool}
+use Rattle.std.proofs.Common.{◌≡◌, ◌≢◌, ℕ, zero, suc, ◌<◌, ◌≤◌, Bool, true, false, cond, ltb, List, [], ◌∷◌, ◌++◌, length, take, drop, Some, refl, ap, sym, subst, ◌∙◌, inl, inr, arith}
+use Rattle.std.specs.Prelude.{slice_get, filter}
+use Rattle.std.proofs.lemmas.Bool.{ltb-true, cases_Bool}
 use Rattle.tree_model.specs.declared.entry.Entry.{Entry}
 use Rattle.tree_model.specs.AccessList.{IsRising, smaller, greater, is_above, greatest, top_of, set_digest, dict}
 use Rattle.tree_model.specs.Treap.{Treap, empty, node, in_order, IsAboveEach, IsHeap, IsTreap, treap_digest}
-use Rattle.tree_model.proofs.AccessLists.{Among, greatest-among, smaller-take, greater-drop, smaller-none, greater-all, smaller-fewer, greater-fewer, greatest-step, set_digest-top, set_digest-none, set_digest-some}
-use Rattle.tree_model.proofs.Members.{All-among}
+use Rattle.tree_model.proofs.AccessLists.{Among, greatest-among, smaller-take, greater-drop, smaller-fewer, greater-fewer, greatest-step, set_digest-top, set_digest-none, set_digest-dict}
 use Rattle.tree_model.proofs.ListChanges.{rising-filter}
-use Rattle.tree_model.proofs.Priorities.{above-self, above-trans, above-total}
+use Rattle.tree_model.proofs.Parts.{around-same}
+use Rattle.tree_model.proofs.Tops.{NoneAbove, above-asym, above-other, greatest-most}
 
 -- ---- a list around an entry
 
@@ -38,12 +37,6 @@ rising-right : (xs ys : List Entry) (e : Entry) → IsRising (xs ++ (e ∷ ys)) 
 rising-right xs ys e h = subst IsRising (greater-middle xs ys e h) (rising-filter (λ (x : Entry). ltb e.user x.user) (xs ++ (e ∷ ys)) h)
 
 -- ---- the root of a heap is the entry of greatest priority
-
-above-asym : (a b : ℕ) → is_above a b ≡ true → is_above b a ≡ false
-above-asym a b ab = elim (cases_Bool (is_above b a)) [
-  | inl ba ↦ let self = above-trans a b a ab ba in let never = above-self a in absurd cc
-  | inr not_so ↦ not_so
-]
 
 greatest-stays : (e : Entry) (es : List Entry) → IsAboveEach e.user es → greatest e es ≡ e
 unfolding greatest
@@ -97,45 +90,6 @@ treap_digest-set d (node e l r) h =
 
 -- ---- each set has a treap
 
--- none of the entries has a greater priority than the user
-abbrev NoneAbove : ℕ → List Entry → Type 0
-NoneAbove user es = AllByRecursion (λ (x : Entry). is_above x.user user ≡ false) es
-
-below-still : (a b c : ℕ) → is_above b a ≡ true → is_above b c ≡ false → is_above a c ≡ false
-below-still a b c ba no_bc = elim (cases_Bool (is_above a c)) [
-  | inl ac ↦ let bc = above-trans b a c ba ac in absurd cc
-  | inr not_so ↦ not_so
-]
-
-greatest-most : (best : Entry) (es : List Entry) → NoneAbove (greatest best es).user (best ∷ es)
-unfolding greatest
-greatest-most best [] = (above-self best.user, tt)
-greatest-most best (e ∷ es) =
-    elim (cases_Bool (is_above e.user best.user)) [
-      | inl above ↦
-          let others : NoneAbove (greatest e es).user (e ∷ es) = greatest-most e es in
-          let step : greatest best (e ∷ es) ≡ greatest e es = rw above refl in
-          let all : NoneAbove (greatest e es).user (best ∷ (e ∷ es)) = (below-still best.user e.user (greatest e es).user above others.0, others) in
-          subst (λ (x : Entry). NoneAbove x.user (best ∷ (e ∷ es))) (sym step) all
-      | inr not_above ↦
-          let others : NoneAbove (greatest best es).user (best ∷ es) = greatest-most best es in
-          let step : greatest best (e ∷ es) ≡ greatest best es = rw not_above refl in
-          let here : is_above e.user (greatest best es).user ≡ false = elim (above-total e.user best.user) [
-            | inl same ↦ rw same others.0
-            | inr (inl above) ↦ absurd cc
-            | inr (inr below) ↦ below-still e.user best.user (greatest best es).user below others.0
-          ] in
-          let all : NoneAbove (greatest best es).user (best ∷ (e ∷ es)) = (others.0, (here, others.1)) in
-          subst (λ (x : Entry). NoneAbove x.user (best ∷ (e ∷ es))) (sym step) all
-    ]
-
-above-other : (a b : ℕ) → a ≢ b → is_above a b ≡ false → is_above b a ≡ true
-above-other a b apart no_ab = elim (above-total a b) [
-  | inl same ↦ absurd (apart same)
-  | inr (inl ab) ↦ absurd cc
-  | inr (inr ba) ↦ ba
-]
-
 -- so it is above each entry of another user
 above-part : (user : ℕ) (p : Entry → Bool) → ((x : Entry) → p x ≡ true → x.user ≢ user) → (es : List Entry) → NoneAbove user es → IsAboveEach user (filter p es)
 above-part user p others [] none = tt
@@ -143,16 +97,6 @@ above-part user p others (e ∷ es) none = elim (cases_Bool (p e)) [
   | inl passes ↦ rw passes (above-other e.user user (others e passes) none.0, above-part user p others es none.1)
   | inr fails ↦ rw fails (above-part user p others es none.1)
 ]
-
--- a set is its smaller users, an entry and its greater users
-around-same : (es : List Entry) (t : Entry) → IsRising es → Among t es → smaller t.user es ++ (t ∷ greater t.user es) ≡ es
-around-same [] t h among = absurd among
-around-same (e ∷ es) t h (inl same) =
-    let self : ltb e.user e.user ≡ false = le-ltb e.user e.user (omega arith) in
-    subst (λ (x : Entry). smaller x.user (e ∷ es) ++ (x ∷ greater x.user (e ∷ es)) ≡ e ∷ es) (sym same) (rw self (rw (smaller-none e.user es h.0, greater-all e.user es h.0) refl))
-around-same (e ∷ es) t h (inr later) =
-    let less = All-among (λ (x : Entry). e.user < x.user) es t h.0 later in
-    rw (lt-ltb e.user t.user less, le-ltb t.user e.user (omega arith)) (ap (λ (xs : List Entry). e ∷ xs) (around-same es t h.1 later))
 
 -- a treap whose list in order this is
 abbrev pub HasTreap : List Entry → Type 0
@@ -181,11 +125,6 @@ treap-within (suc n) (e ∷ es) most h =
 pub treap-of_set : (es : List Entry) → IsRising es → HasTreap es
 treap-of_set es h = treap-within (length es) es (omega arith) h
 
-some_is : (x : Option (List ℕ)) → (x ≡ None → ⊥) → x ≡ Some (unwrap_or x [])
-some_is None some = absurd (some refl)
-some_is (Some y) some = refl
-
 -- the digest of an access list is that of its treap
 pub treap_digest-dict : (d : List ℕ → List ℕ) (t : Treap) → IsTreap t → 0 < length (in_order t) → treap_digest d t ≡ Some (dict d (in_order t))
-unfolding dict
-treap_digest-dict d t h some = treap_digest-set d t h ∙ some_is (set_digest d (in_order t)) (set_digest-some d (in_order t) some)
+treap_digest-dict d t h some = treap_digest-set d t h ∙ set_digest-dict d (in_order t) some

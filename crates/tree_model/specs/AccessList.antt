@@ -1,8 +1,8 @@
 -- Access lists: sets of entries, one for each user, kept as lists whose users rise; the digest of a set
 -- by its entry of greatest priority, which is the digest of the one treap of the set (Aragon and Seidel,
 -- "Randomized Search Trees"); and what a change leaves of a set. d is the digest of strings.
-use Rattle.std.specs.Prelude.{◌≡◌, ◌≢◌, ℕ, zero, suc, ◌<◌, Bool, not, List, [], ◌∷◌, ◌++◌, length, map, filter, find, Option, Some, None, nat_lt, nat_eq, if◌then◌else◌, unwrap_or}
-use Rattle.std.specs.List.{AllByRecursion}
+use Rattle.std.specs.Prelude.{◌≡◌, ◌≢◌, ℕ, zero, suc, ◌<◌, Bool, not, ◌^◌, false, List, [], ◌∷◌, ◌++◌, length, map, filter, find, Option, Some, None, nat_lt, nat_eq, if◌then◌else◌, unwrap_or}
+use Rattle.std.specs.List.{AllByRecursion, Contains}
 use Rattle.std.specs.Int.{w32, to_be_bytes}
 use Rattle.std.specs.Ordering.{ordering_then, nat_cmp, is_gt}
 use Rattle.std.specs.declared.cmp.Ordering.{Ordering}
@@ -52,6 +52,10 @@ unfoldable pub top_of : List Entry → Option Entry
 top_of [] = None
 top_of (e ∷ es) = Some (greatest e es)
 
+-- The entry is a member of the set, and nobody's priority is above its user's.
+abbrev pub IsTop : List Entry → Entry → Type 0
+IsTop es t = Contains es t × ((x : Entry) → Contains es x → is_above x.user t.user ≡ false)
+
 -- ---- digests
 
 -- a child's digest, where there is a child
@@ -68,22 +72,34 @@ flags (Some l) (Some r) = 3
 
 -- the string of a node: the byte 2, the entry, the flags and the digests of the children, left first
 abbrev pub node_text : Entry → Option (List ℕ) → Option (List ℕ) → List ℕ
-node_text e l r = 2 ∷ (to_be_bytes w32 e.user ++ (e.role ∷ (to_be_bytes w32 e.next ++ (flags l r ∷ (child_text l ++ child_text r)))))
+node_text e l r =
+    2 ∷ (to_be_bytes w32 e.user ++ (e.role ∷ (to_be_bytes w32 e.next
+    ++ (flags l r ∷ (child_text l ++ child_text r)))))
 
--- The digest of a set of at most n entries, where it isn't empty: the entry of greatest priority is
--- taken out, and the smaller and the greater users are digested in the same way.
-unfoldable pub set_digest_in : (List ℕ → List ℕ) → ℕ → List Entry → Option (List ℕ)
-set_digest_in d zero es = None
-set_digest_in d (suc n) [] = None
-set_digest_in d (suc n) (e ∷ es) = Some (d (node_text (greatest e es) (set_digest_in d n (smaller (greatest e es).user (e ∷ es))) (set_digest_in d n (greater (greatest e es).user (e ∷ es)))))
+-- The numbers of an entry fit their places in the string: 4 bytes, 1 and 4.
+pub record IsInRange (e : Entry) : Type 0 where
+  pub user : e.user < 2 ^ 32
+  pub role : e.role < 2 ^ 8
+  pub next : e.next < 2 ^ 32
 
--- The digest of a set, where it isn't empty.
-unfoldable pub set_digest : (List ℕ → List ℕ) → List Entry → Option (List ℕ)
-set_digest d es = set_digest_in d (length es) es
+module _ (d : List ℕ → List ℕ) where
+  -- The digest of a set of at most n entries, where it isn't empty: the entry of greatest priority is
+  -- taken out, and the smaller and the greater users are digested in the same way.
+  unfoldable pub set_digest_in : ℕ → List Entry → Option (List ℕ)
+  set_digest_in zero es = None
+  set_digest_in (suc n) [] = None
+  set_digest_in (suc n) (e ∷ es) =
+      Some (d (node_text (greatest e es)
+      (set_digest_in n (smaller (greatest e es).user (e ∷ es)))
+      (set_digest_in n (greater (greatest e es).user (e ∷ es)))))
 
--- The digest of an access list, which is never empty.
-unfoldable pub dict : (List ℕ → List ℕ) → List Entry → List ℕ
-dict d es = unwrap_or (set_digest d es) []
+  -- The digest of a set, where it isn't empty.
+  unfoldable pub set_digest : List Entry → Option (List ℕ)
+  set_digest es = set_digest_in (length es) es
+
+  -- The digest of an access list, which is never empty.
+  unfoldable pub dict : List Entry → List ℕ
+  dict es = unwrap_or (set_digest es) []
 
 -- ---- changes
 
@@ -104,9 +120,13 @@ FitsChange es author stays = IsListed es author
 FitsChange es author (adds e) = IsListed es author × (entry_of es e.user ≡ None)
 FitsChange es author (drops user) = IsListed es author × IsListed es user × (user ≢ author)
 
+-- the entry, with this next number where it is this user's
+abbrev pub numbered : ℕ → ℕ → Entry → Entry
+numbered user next e = if nat_eq e.user user then (record e { next = next }) else e
+
 -- the set in which this user's entry has this next number
 abbrev pub with_next : ℕ → ℕ → List Entry → List Entry
-with_next user next es = map (λ (e : Entry). if nat_eq e.user user then (record { user = e.user; role = e.role; next = next }) else e) es
+with_next user next es = map (numbered user next) es
 
 -- the set with this entry
 abbrev pub with_entry : Entry → List Entry → List Entry

@@ -16,19 +16,7 @@ single_string left = 1 ∷ left
 abbrev pub pair_string : List ℕ → List ℕ → List ℕ
 pair_string left right = 1 ∷ (left ++ right)
 
--- ---- the tree over a list
-
--- The string of the node of height j over the texts, of which there are at most 2^j.
-unfoldable pub node_string : (List ℕ → List ℕ) → ℕ → List (List ℕ) → List ℕ
-node_string d zero texts = leaf_string (slice_index_or texts 0 [])
-node_string d (suc j) texts =
-    if nat_lt (2 ^ j) (length texts)
-    then pair_string (d (node_string d j (take (2 ^ j) texts))) (d (node_string d j (drop (2 ^ j) texts)))
-    else single_string (d (node_string d j texts))
-
--- The digest of that node.
-unfoldable pub part : (List ℕ → List ℕ) → ℕ → List (List ℕ) → List ℕ
-part d j texts = d (node_string d j texts)
+-- ---- the height
 
 -- The least e with n ≤ 2^e among `from` and the next `tries` numbers.
 unfoldable pub least_exponent : ℕ → ℕ → ℕ → ℕ
@@ -39,10 +27,25 @@ least_exponent n from (suc tries) = if nat_lt (2 ^ from) n then least_exponent n
 unfoldable pub depth : ℕ → ℕ
 depth n = least_exponent n 0 n
 
--- The root of the tree over all of the texts.
-unfoldable pub root_of_all : (List ℕ → List ℕ) → List (List ℕ) → List ℕ
-root_of_all d texts = part d (depth (length texts)) texts
+-- ---- the tree over a list
 
--- The root of version v: of the tree over the first v texts.
-unfoldable pub root : (List ℕ → List ℕ) → List (List ℕ) → ℕ → List ℕ
-root d texts v = root_of_all d (take v texts)
+module _ (d : List ℕ → List ℕ) where
+  -- The string of the node of height j over the texts, of which there are at most 2^j.
+  unfoldable pub node_string : ℕ → List (List ℕ) → List ℕ
+  node_string zero texts = leaf_string (slice_index_or texts 0 [])
+  node_string (suc j) texts =
+      if nat_lt (2 ^ j) (length texts)
+      then pair_string (d (node_string j (take (2 ^ j) texts))) (d (node_string j (drop (2 ^ j) texts)))
+      else single_string (d (node_string j texts))
+
+  -- The digest of that node.
+  unfoldable pub part : ℕ → List (List ℕ) → List ℕ
+  part j texts = d (node_string j texts)
+
+  -- The root of the tree over all of the texts.
+  unfoldable pub root_of_all : List (List ℕ) → List ℕ
+  root_of_all texts = part (depth (length texts)) texts
+
+  -- The root of version v: of the tree over the first v texts.
+  unfoldable pub root : List (List ℕ) → ℕ → List ℕ
+  root texts v = root_of_all (take v texts)

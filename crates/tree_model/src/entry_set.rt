@@ -3,7 +3,7 @@ ghost use Rattle.std.specs.Int.{w32, to_be_bytes};
 ghost use Rattle.tree_model.specs.AccessList.{IsRising, top_of, node_text, set_digest, dict};
 
 use crate::entry::Entry;
-use crate::priority::{hash_of, is_above_by};
+use crate::priority::{is_above, priority_hash};
 use fr_digest::{Dig, Digester};
 
 /// The tag of a node's string.
@@ -18,11 +18,11 @@ pub fn top_in(entries: &[Entry]) -> (usize, Entry)
 {
     let mut place = 0;
     let mut top = entries[0];
-    let mut top_hash = hash_of(top.user);
+    let mut top_hash = priority_hash(top.user);
     for i in 1..entries.len() {
         let entry = entries[i];
-        let hash = hash_of(entry.user);
-        if is_above_by(entry.user, &hash, top.user, &top_hash) {
+        let hash = priority_hash(entry.user);
+        if is_above(entry.user, &hash, top.user, &top_hash) {
             place = i;
             top = entry;
             top_hash = hash;
@@ -32,8 +32,9 @@ pub fn top_in(entries: &[Entry]) -> (usize, Entry)
 }
 
 /// The first bytes of a node's string, behind the tag: the entry and which children there are.
-fn head_of(entry: &Entry, flags: u8) -> [u8; 10]
-    ensures { result ≡ to_be_bytes w32 entry.now.user ++ (entry.now.role ∷ (to_be_bytes w32 entry.now.next ++ (flags ∷ []))) }
+fn head(entry: &Entry, flags: u8) -> [u8; 10]
+    ensures { result ≡ to_be_bytes w32 entry.now.user
+        ++ (entry.now.role ∷ (to_be_bytes w32 entry.now.next ++ (flags ∷ []))) }
 {
     let user = entry.user.to_be_bytes();
     let next = entry.next.to_be_bytes();
@@ -58,17 +59,17 @@ fn node_digest<D: Digester>(entry: &Entry, left: Option<Dig>, right: Option<Dig>
     ensures { result ≡ D.digest_of (node_text entry.now left right) }
 {
     match (left, right) {
-        (None, None) => D::tagged(NODE_TAG, &head_of(entry, 0), &[]),
-        (Some(left), None) => D::tagged(NODE_TAG, &head_of(entry, 1), &left),
-        (None, Some(right)) => D::tagged(NODE_TAG, &head_of(entry, 2), &right),
+        (None, None) => D::tagged(NODE_TAG, &head(entry, 0), &[]),
+        (Some(left), None) => D::tagged(NODE_TAG, &head(entry, 1), &left),
+        (None, Some(right)) => D::tagged(NODE_TAG, &head(entry, 2), &right),
         (Some(left), Some(right)) => {
-            D::tagged(NODE_TAG, &head_of(entry, 3), &joined(&left, &right))
+            D::tagged(NODE_TAG, &head(entry, 3), &joined(&left, &right))
         }
     }
 }
 
 /// The digest of a set, where it isn't empty.
-fn set_digest_of<D: Digester>(entries: &[Entry]) -> Option<Dig>
+fn set_digest<D: Digester>(entries: &[Entry]) -> Option<Dig>
     requires { IsRising entries.now }
     ensures { result ≡ set_digest D.digest_of entries.now }
 {
@@ -78,8 +79,8 @@ fn set_digest_of<D: Digester>(entries: &[Entry]) -> Option<Dig>
     let (place, top) = top_in(entries);
     let (left, rest) = entries.split_at(place);
     let (_, right) = rest.split_at(1);
-    let left = set_digest_of::<D>(left);
-    let right = set_digest_of::<D>(right);
+    let left = set_digest::<D>(left);
+    let right = set_digest::<D>(right);
     Some(node_digest::<D>(&top, left, right))
 }
 
@@ -92,7 +93,7 @@ pub fn dict_digest<D: Digester>(entries: &[Entry]) -> Dig
     requires rising { IsRising entries.now }
     ensures { result ≡ dict D.digest_of entries.now }
 {
-    match set_digest_of::<D>(entries) {
+    match set_digest::<D>(entries) {
         Some(digest) => digest,
         None => unreachable!(),
     }

@@ -21,7 +21,7 @@ pub fn root_of<D: Digester>(texts: &[Bytes]) -> Dig
     requires some { 0 < length texts.now }
     ensures { result ≡ root_of_all D.digest_of texts.now }
 {
-    part_of::<D>(texts, depth_of(texts.len() as u64))
+    part::<D>(texts, depth_of(texts.len() as u64))
 }
 
 /// The height of the history tree of `n` leaves, the least `e` with `n <= 2^e`: at most 64.
@@ -44,7 +44,7 @@ pub fn left_leaves(level: u32) -> usize
 }
 
 /// The digest of the node of height `level` over `texts`.
-fn part_of<D: Digester>(texts: &[Bytes], level: u32) -> Dig
+fn part<D: Digester>(texts: &[Bytes], level: u32) -> Dig
     requires some { 0 < length texts.now }
     requires fits { length texts.now ≤ 2 ^ level }
     requires levels { level ≤ 64 }
@@ -55,12 +55,8 @@ fn part_of<D: Digester>(texts: &[Bytes], level: u32) -> Dig
     }
     let half = left_leaves(level);
     if texts.len() <= half {
-        return D::tagged(1, &[], &part_of::<D>(texts, level - 1));
+        return D::tagged(1, &[], &part::<D>(texts, level - 1));
     }
     let (left, right) = texts.split_at(half);
-    D::tagged(
-        1,
-        &part_of::<D>(left, level - 1),
-        &part_of::<D>(right, level - 1),
-    )
+    D::tagged(1, &part::<D>(left, level - 1), &part::<D>(right, level - 1))
 }

@@ -1,4 +1,6 @@
-//! The laws of the roots and of the digests of access lists. Each function has an empty body, and its contract is the law.
+//! The laws of the roots and of the digests of access lists. Each function's contract is the law, and its
+//! body is empty or computes nothing.
 
 pub mod access_list;
 pub mod history;
+pub mod parts;

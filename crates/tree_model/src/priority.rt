@@ -8,7 +8,7 @@ const PRIORITY_TAG: u8 = 3;
 
 /// The hash of a user's priority: SHA-256 of a tag and the user's number.
 #[tactic(auto, unfolding(crate::specs::AccessList::priority_hash))]
-pub(crate) fn hash_of(user: u32) -> Dig
+pub(crate) fn priority_hash(user: u32) -> Dig
     ensures { result ≡ priority_hash user }
 {
     Sha::tagged(PRIORITY_TAG, &user.to_be_bytes(), &[])
@@ -16,7 +16,7 @@ pub(crate) fn hash_of(user: u32) -> Dig
 
 /// Whether the priority of user `a`, with this hash, is greater than that of `b` with its hash.
 #[tactic(auto, unfolding(crate::specs::AccessList::is_above))]
-pub(crate) fn is_above_by(a: u32, a_hash: &Dig, b: u32, b_hash: &Dig) -> bool
+pub(crate) fn is_above(a: u32, a_hash: &Dig, b: u32, b_hash: &Dig) -> bool
     requires left { a_hash.now ≡ priority_hash a }
     requires right { b_hash.now ≡ priority_hash b }
     ensures { result ≡ is_above a b }
@@ -33,5 +33,5 @@ pub(crate) fn is_above_by(a: u32, a_hash: &Dig, b: u32, b_hash: &Dig) -> bool
 pub fn above(a: u32, b: u32) -> bool
     ensures { result ≡ is_above a b }
 {
-    is_above_by(a, &hash_of(a), b, &hash_of(b))
+    is_above(a, &priority_hash(a), b, &priority_hash(b))
 }

@@ -1,148 +1,125 @@
-ghost use Rattle.std.specs.Prelude.{◌≡◌};
+ghost use Rattle.std.specs.Prelude.{◌≡◌, IfOk};
+ghost use Rattle.tree_model.specs.AccessList.{IsRising};
 
 use crate::{
     Entry, above, add_entry, dict_digest, drop_user, find_entry, greater_users, laws, set_next,
     smaller_users, top_in,
 };
-use fr_digest::{Sha, Short};
+use fr_bytes::NoMemory;
+use fr_digest::{Digester, Sha, Short};
+use std::alloc::{AllocError, Global};
 use std::test::Fail;
 
-fn entry(user: u32, role: u8, next: u32) -> Entry
-    ensures { result ≡ record { user = user; role = role; next = next } }
+/// A user, its role and its next number.
+type Row = (u32, u8, u32);
+
+/// Sets of entries and their digests under SHA-256 and the first bytes of those under the short digest,
+/// from an independent program.
+const SETS: [(&[Row], &str, &str); 12] = [
+    (
+        &[(1, 3, 1)],
+        "8d22c5ccae83848b583a52f658756deee9c5b14aeb20a694a118ff25449d10cd",
+        "8d",
+    ),
+    (
+        &[(1, 3, 1), (2, 1, 2)],
+        "acb466b6575b983f559bee6ade055019f4f431783d807a9992c115e0f003757c",
+        "e1",
+    ),
+    (
+        &[(1, 3, 9), (2, 1, 2)],
+        "1e5461a867f1267a50594526f6225dfa648140157d40f8e314b941cc5befb9c3",
+        "79",
+    ),
+    (
+        &[(1, 3, 9), (2, 1, 2), (100, 2, 0)],
+        "615c50a27f3e6b3085fa5b12b46068dcbb27fae5e49d7cbd65f61e63458c492a",
+        "e9",
+    ),
+    (
+        &[(1, 3, 9)],
+        "6019efae85802c594351421e8a13a281710c470f02f2cb55fbdb67e9a7540f37",
+        "60",
+    ),
+    (
+        &[(1, 3, 1), (2, 1, 2), (3, 2, 3), (4, 1, 4)],
+        "e37ba609bd5f39759602e22eac0d2576f3171c9ccbf6d466490e5e5ebbe3e66a",
+        "69",
+    ),
+    (
+        &[(1, 3, 9), (2, 1, 2), (3, 2, 3), (4, 1, 4)],
+        "81353b5879fa7ec2a7680f3557a3950a67c0770b9937c89b90828e53b21d9144",
+        "a6",
+    ),
+    (
+        &[(1, 3, 9), (2, 1, 2), (3, 2, 3), (4, 1, 4), (100, 2, 0)],
+        "6cb383d1367b1966dbc80677a37610c12b1e8b7643638eed856641698c189e49",
+        "1c",
+    ),
+    (
+        &[(1, 3, 9), (3, 2, 3), (4, 1, 4)],
+        "c4b63592ae3005c28262ae8c76756afa59c4f583c74e6e454511d9740d397576",
+        "81",
+    ),
+    (
+        &[
+            (1, 3, 1),
+            (2, 1, 2),
+            (3, 2, 3),
+            (4, 1, 4),
+            (5, 2, 0),
+            (6, 1, 1),
+            (7, 2, 2),
+            (8, 1, 3),
+            (9, 2, 4),
+        ],
+        "f507f938a8a37b16083b62c37946e0a0c93c20e284162140a0a61f2d42b2ab84",
+        "3d",
+    ),
+    // The owner 1 with the writers 2, 3 and 4, and then without 3.
+    (
+        &[(1, 3, 0), (2, 2, 0), (3, 2, 0), (4, 2, 0)],
+        "a7248e92e5f392603611d223de2bc53fe4d54077013043b5b9693449eebf46bb",
+        "d0",
+    ),
+    (
+        &[(1, 3, 0), (2, 2, 0), (4, 2, 0)],
+        "cb3017ee93ceb453e2be835d19ced9a0dd25b1bb9d3100a7faa41363e8657605",
+        "12",
+    ),
+];
+
+/// The list of these entries.
+fn list_of(alloc: Global, rows: &[Row]) -> Result<Vec<Entry>, NoMemory>
+    ensures { IfOk result (λ list. IsRising list.items) }
 {
-    Entry { user, role, next }
+    let mut list = Vec::new(alloc);
+    for row in rows {
+        let (user, role, next) = *row;
+        list = add_entry(alloc, &list, Entry { user, role, next })?;
+    }
+    Ok(list)
 }
 
-// Sets of entries and their digests under SHA-256 and the first bytes of those under the short digest,
-// from an independent program.
+/// The digest of these entries as hexadecimal text, and nothing where there are none.
+fn digest_text<D: Digester>(alloc: Global, rows: &[Row]) -> Result<String, NoMemory> {
+    let list = list_of(alloc, rows)?;
+    if list.is_empty() {
+        return Ok(String::new(alloc));
+    }
+    let text = hex::encode(alloc, dict_digest::<D>(&list))?;
+    Ok(text)
+}
+
 #[test]
-fn digests_of_sets_are_those_of_an_independent_program(rt: HostRuntime) {
-    let list = [entry(1, 3, 1)];
-    assert_eq!(rt;
-        dict_digest::<Sha>(&list),
-        [
-            0x8d, 0x22, 0xc5, 0xcc, 0xae, 0x83, 0x84, 0x8b, 0x58, 0x3a, 0x52, 0xf6, 0x58, 0x75,
-            0x6d, 0xee, 0xe9, 0xc5, 0xb1, 0x4a, 0xeb, 0x20, 0xa6, 0x94, 0xa1, 0x18, 0xff, 0x25,
-            0x44, 0x9d, 0x10, 0xcd
-        ]
-    );
-    assert_eq!(rt; dict_digest::<Short>(&list)[0], 0x8d);
-    let list = [entry(1, 3, 1), entry(2, 1, 2)];
-    assert_eq!(rt;
-        dict_digest::<Sha>(&list),
-        [
-            0xac, 0xb4, 0x66, 0xb6, 0x57, 0x5b, 0x98, 0x3f, 0x55, 0x9b, 0xee, 0x6a, 0xde, 0x05,
-            0x50, 0x19, 0xf4, 0xf4, 0x31, 0x78, 0x3d, 0x80, 0x7a, 0x99, 0x92, 0xc1, 0x15, 0xe0,
-            0xf0, 0x03, 0x75, 0x7c
-        ]
-    );
-    assert_eq!(rt; dict_digest::<Short>(&list)[0], 0xe1);
-    let list = [entry(1, 3, 9), entry(2, 1, 2)];
-    assert_eq!(rt;
-        dict_digest::<Sha>(&list),
-        [
-            0x1e, 0x54, 0x61, 0xa8, 0x67, 0xf1, 0x26, 0x7a, 0x50, 0x59, 0x45, 0x26, 0xf6, 0x22,
-            0x5d, 0xfa, 0x64, 0x81, 0x40, 0x15, 0x7d, 0x40, 0xf8, 0xe3, 0x14, 0xb9, 0x41, 0xcc,
-            0x5b, 0xef, 0xb9, 0xc3
-        ]
-    );
-    assert_eq!(rt; dict_digest::<Short>(&list)[0], 0x79);
-    let list = [entry(1, 3, 9), entry(2, 1, 2), entry(100, 2, 0)];
-    assert_eq!(rt;
-        dict_digest::<Sha>(&list),
-        [
-            0x61, 0x5c, 0x50, 0xa2, 0x7f, 0x3e, 0x6b, 0x30, 0x85, 0xfa, 0x5b, 0x12, 0xb4, 0x60,
-            0x68, 0xdc, 0xbb, 0x27, 0xfa, 0xe5, 0xe4, 0x9d, 0x7c, 0xbd, 0x65, 0xf6, 0x1e, 0x63,
-            0x45, 0x8c, 0x49, 0x2a
-        ]
-    );
-    assert_eq!(rt; dict_digest::<Short>(&list)[0], 0xe9);
-    let list = [entry(1, 3, 9)];
-    assert_eq!(rt;
-        dict_digest::<Sha>(&list),
-        [
-            0x60, 0x19, 0xef, 0xae, 0x85, 0x80, 0x2c, 0x59, 0x43, 0x51, 0x42, 0x1e, 0x8a, 0x13,
-            0xa2, 0x81, 0x71, 0x0c, 0x47, 0x0f, 0x02, 0xf2, 0xcb, 0x55, 0xfb, 0xdb, 0x67, 0xe9,
-            0xa7, 0x54, 0x0f, 0x37
-        ]
-    );
-    assert_eq!(rt; dict_digest::<Short>(&list)[0], 0x60);
-    let list = [
-        entry(1, 3, 1),
-        entry(2, 1, 2),
-        entry(3, 2, 3),
-        entry(4, 1, 4),
-    ];
-    assert_eq!(rt;
-        dict_digest::<Sha>(&list),
-        [
-            0xe3, 0x7b, 0xa6, 0x09, 0xbd, 0x5f, 0x39, 0x75, 0x96, 0x02, 0xe2, 0x2e, 0xac, 0x0d,
-            0x25, 0x76, 0xf3, 0x17, 0x1c, 0x9c, 0xcb, 0xf6, 0xd4, 0x66, 0x49, 0x0e, 0x5e, 0x5e,
-            0xbb, 0xe3, 0xe6, 0x6a
-        ]
-    );
-    assert_eq!(rt; dict_digest::<Short>(&list)[0], 0x69);
-    let list = [
-        entry(1, 3, 9),
-        entry(2, 1, 2),
-        entry(3, 2, 3),
-        entry(4, 1, 4),
-    ];
-    assert_eq!(rt;
-        dict_digest::<Sha>(&list),
-        [
-            0x81, 0x35, 0x3b, 0x58, 0x79, 0xfa, 0x7e, 0xc2, 0xa7, 0x68, 0x0f, 0x35, 0x57, 0xa3,
-            0x95, 0x0a, 0x67, 0xc0, 0x77, 0x0b, 0x99, 0x37, 0xc8, 0x9b, 0x90, 0x82, 0x8e, 0x53,
-            0xb2, 0x1d, 0x91, 0x44
-        ]
-    );
-    assert_eq!(rt; dict_digest::<Short>(&list)[0], 0xa6);
-    let list = [
-        entry(1, 3, 9),
-        entry(2, 1, 2),
-        entry(3, 2, 3),
-        entry(4, 1, 4),
-        entry(100, 2, 0),
-    ];
-    assert_eq!(rt;
-        dict_digest::<Sha>(&list),
-        [
-            0x6c, 0xb3, 0x83, 0xd1, 0x36, 0x7b, 0x19, 0x66, 0xdb, 0xc8, 0x06, 0x77, 0xa3, 0x76,
-            0x10, 0xc1, 0x2b, 0x1e, 0x8b, 0x76, 0x43, 0x63, 0x8e, 0xed, 0x85, 0x66, 0x41, 0x69,
-            0x8c, 0x18, 0x9e, 0x49
-        ]
-    );
-    assert_eq!(rt; dict_digest::<Short>(&list)[0], 0x1c);
-    let list = [entry(1, 3, 9), entry(3, 2, 3), entry(4, 1, 4)];
-    assert_eq!(rt;
-        dict_digest::<Sha>(&list),
-        [
-            0xc4, 0xb6, 0x35, 0x92, 0xae, 0x30, 0x05, 0xc2, 0x82, 0x62, 0xae, 0x8c, 0x76, 0x75,
-            0x6a, 0xfa, 0x59, 0xc4, 0xf5, 0x83, 0xc7, 0x4e, 0x6e, 0x45, 0x45, 0x11, 0xd9, 0x74,
-            0x0d, 0x39, 0x75, 0x76
-        ]
-    );
-    assert_eq!(rt; dict_digest::<Short>(&list)[0], 0x81);
-    let list = [
-        entry(1, 3, 1),
-        entry(2, 1, 2),
-        entry(3, 2, 3),
-        entry(4, 1, 4),
-        entry(5, 2, 0),
-        entry(6, 1, 1),
-        entry(7, 2, 2),
-        entry(8, 1, 3),
-        entry(9, 2, 4),
-    ];
-    assert_eq!(rt;
-        dict_digest::<Sha>(&list),
-        [
-            0xf5, 0x07, 0xf9, 0x38, 0xa8, 0xa3, 0x7b, 0x16, 0x08, 0x3b, 0x62, 0xc3, 0x79, 0x46,
-            0xe0, 0xa0, 0xc9, 0x3c, 0x20, 0xe2, 0x84, 0x16, 0x21, 0x40, 0xa0, 0xa6, 0x1f, 0x2d,
-            0x42, 0xb2, 0xab, 0x84
-        ]
-    );
-    assert_eq!(rt; dict_digest::<Short>(&list)[0], 0x3d);
+fn digests_of_sets_are_those_of_an_independent_program(rt: HostRuntime) -> Result<(), Fail> {
+    for (rows, whole, first) in &SETS {
+        let text = digest_text::<Sha>(rt.alloc(), rows)?;
+        assert_eq!(rt; text.as_str(), *whole);
+        let text = digest_text::<Short>(rt.alloc(), rows)?;
+        assert!(rt; text.as_str().starts_with(*first));
+    }
+    Ok(())
 }
 
 #[test]
@@ -155,56 +132,94 @@ fn priorities_order_the_users(rt: HostRuntime) {
     }
 }
 
+/// The list of users 1, 2 and 4.
+const LIST: [Entry; 3] = [
+    Entry {
+        user: 1,
+        role: 3,
+        next: 1,
+    },
+    Entry {
+        user: 2,
+        role: 1,
+        next: 2,
+    },
+    Entry {
+        user: 4,
+        role: 2,
+        next: 0,
+    },
+];
+
+/// The changes of the list, and what they leave of it.
+fn changed(alloc: Global, change: &str) -> Result<Vec<Entry>, NoMemory> {
+    match change {
+        "add 3" => add_entry(
+            alloc,
+            &LIST,
+            Entry {
+                user: 3,
+                role: 2,
+                next: 0,
+            },
+        ),
+        "drop 2" => drop_user(alloc, &LIST, 2),
+        "next of 2" => set_next(alloc, &LIST, 2, 9),
+        "below 2" => smaller_users(alloc, &LIST, 2),
+        _ => greater_users(alloc, &LIST, 2),
+    }
+}
+
 #[test]
 fn changes_leave_the_other_entries(rt: HostRuntime) -> Result<(), Fail> {
-    let list = [entry(1, 3, 1), entry(2, 1, 2), entry(4, 2, 0)];
-    let alloc = rt.alloc();
-    assert_eq!(rt; find_entry(&list, 2), Some(entry(2, 1, 2)));
-    assert_eq!(rt; find_entry(&list, 3), None);
-    let more = add_entry(alloc, &list, entry(3, 2, 0))?;
-    assert_eq!(rt;
-        more.as_slice(),
-        [
-            entry(1, 3, 1),
-            entry(2, 1, 2),
-            entry(3, 2, 0),
-            entry(4, 2, 0)
-        ]
-        .as_slice()
-    );
-    let fewer = drop_user(alloc, &list, 2)?;
-    assert_eq!(rt;
-        fewer.as_slice(),
-        [entry(1, 3, 1), entry(4, 2, 0)].as_slice()
-    );
-    let next = set_next(alloc, &list, 2, 9)?;
-    assert_eq!(rt;
-        next.as_slice(),
-        [entry(1, 3, 1), entry(2, 1, 9), entry(4, 2, 0)].as_slice()
-    );
-    assert_eq!(rt;
-        smaller_users(alloc, &list, 2)?.as_slice(),
-        [entry(1, 3, 1)].as_slice()
-    );
-    assert_eq!(rt;
-        greater_users(alloc, &list, 2)?.as_slice(),
-        [entry(4, 2, 0)].as_slice()
-    );
-    let (place, top) = top_in(&list);
-    assert_eq!(rt; place, 1);
-    assert_eq!(rt; top, entry(2, 1, 2));
+    let rows: [(&str, &[Row]); 5] = [
+        ("add 3", &[(1, 3, 1), (2, 1, 2), (3, 2, 0), (4, 2, 0)]),
+        ("drop 2", &[(1, 3, 1), (4, 2, 0)]),
+        ("next of 2", &[(1, 3, 1), (2, 1, 9), (4, 2, 0)]),
+        ("below 2", &[(1, 3, 1)]),
+        ("above 2", &[(4, 2, 0)]),
+    ];
+    for (change, want) in &rows {
+        let list = changed(rt.alloc(), change)?;
+        assert_eq!(rt; list.as_slice(), list_of(rt.alloc(), want)?.as_slice());
+    }
     Ok(())
 }
 
 #[test]
-fn laws_of_access_lists_are_called() {
+fn look_ups_find_entries_and_the_top(rt: HostRuntime) {
+    assert_eq!(rt; find_entry(&LIST, 2), Some(LIST[1]));
+    assert_eq!(rt; find_entry(&LIST, 3), None);
+    assert_eq!(rt; top_in(&LIST), (1, LIST[1]));
+}
+
+#[test]
+fn laws_of_sets_are_called() {
     laws::access_list::priorities();
+    laws::access_list::tops();
+    laws::access_list::members();
+    laws::access_list::node_strings();
+    laws::access_list::ranges(&LIST);
+    laws::access_list::changes();
+    laws::access_list::look_ups();
+}
+
+#[test]
+fn laws_of_digests_are_called() {
     laws::access_list::digests::<Sha>();
     laws::access_list::digests::<Short>();
-    laws::access_list::changes();
     laws::access_list::sets::<Sha>();
     laws::access_list::sets::<Short>();
     laws::access_list::treaps::<Sha>();
     laws::access_list::treaps::<Short>();
-    laws::access_list::look_ups();
+}
+
+#[test]
+fn laws_of_parts_are_called() {
+    laws::parts::around();
+    laws::parts::parts_of_parts();
+    laws::parts::joined();
+    laws::parts::next_set();
+    laws::parts::entry_added();
+    laws::parts::user_dropped();
 }

@@ -1,52 +1,26 @@
 use crate::{depth_of, laws, left_leaves, root_at};
 use fr_bytes::{Bytes, Texts};
-use fr_digest::{Dig, Digester, Sha, Short};
+use fr_digest::{Digester, Sha, Short};
 use std::alloc::{AllocError, Global};
 use std::test::Fail;
 
 // The roots of the versions 1 to 5 of the texts "a" to "e", from an independent program.
-const FIVE_ROOTS: [Dig; 5] = [
-    [
-        0x02, 0x2a, 0x69, 0x79, 0xe6, 0xda, 0xb7, 0xaa, 0x5a, 0xe4, 0xc3, 0xe5, 0xe4, 0x5f, 0x7e,
-        0x97, 0x71, 0x12, 0xa7, 0xe6, 0x35, 0x93, 0x82, 0x0d, 0xbe, 0xc1, 0xec, 0x73, 0x8a, 0x24,
-        0xf9, 0x3c,
-    ],
-    [
-        0xb1, 0x37, 0x98, 0x5f, 0xf4, 0x84, 0xfb, 0x60, 0x0d, 0xb9, 0x31, 0x07, 0xc7, 0x7b, 0x03,
-        0x65, 0xc8, 0x0d, 0x78, 0xf5, 0xb4, 0x29, 0xde, 0xd0, 0xfd, 0x97, 0x36, 0x1d, 0x07, 0x79,
-        0x99, 0xeb,
-    ],
-    [
-        0xb1, 0x38, 0xe9, 0xb8, 0xf0, 0x68, 0x61, 0x54, 0x86, 0xeb, 0x34, 0x89, 0x9e, 0x67, 0x82,
-        0x03, 0x08, 0x4f, 0xdb, 0xce, 0xdf, 0x12, 0x8a, 0xa9, 0x79, 0x3f, 0x74, 0x5d, 0x34, 0x6e,
-        0x25, 0x94,
-    ],
-    [
-        0x33, 0x37, 0x6a, 0x3b, 0xd6, 0x3e, 0x99, 0x93, 0x70, 0x8a, 0x84, 0xdd, 0xfe, 0x6c, 0x28,
-        0xae, 0x58, 0xb8, 0x35, 0x05, 0xdd, 0x1f, 0xed, 0x71, 0x1b, 0xd9, 0x24, 0xec, 0x5a, 0x62,
-        0x39, 0xf0,
-    ],
-    [
-        0x5a, 0xdd, 0xd6, 0x85, 0xbc, 0xa3, 0x0b, 0x91, 0x46, 0x7d, 0xbb, 0xbc, 0x36, 0xa6, 0x80,
-        0x2d, 0xb9, 0x2e, 0x27, 0x99, 0x73, 0x50, 0xd5, 0x7c, 0xda, 0x1b, 0x80, 0xc4, 0x5e, 0x47,
-        0xbe, 0x22,
-    ],
+const FIVE_ROOTS: [&str; 5] = [
+    "022a6979e6dab7aa5ae4c3e5e45f7e977112a7e63593820dbec1ec738a24f93c",
+    "b137985ff484fb600db93107c77b0365c80d78f5b429ded0fd97361d077999eb",
+    "b138e9b8f068615486eb34899e678203084fdbcedf128aa9793f745d346e2594",
+    "33376a3bd63e9993708a84ddfe6c28ae58b83505dd1fed711bd924ec5a6239f0",
+    "5addd685bca30b91467dbbbc36a6802db92e27997350d57cda1b80c45e47be22",
 ];
 
 // The SHA-256 of the 40 roots of the texts "t0" to "t39", one after the other, from the same program.
-const FORTY_ROOTS: Dig = [
-    0x0a, 0x8d, 0x2b, 0x62, 0x31, 0x53, 0x82, 0x09, 0xcb, 0x62, 0x59, 0x11, 0x4d, 0x6c, 0x4d, 0x47,
-    0x3f, 0x31, 0x35, 0xb3, 0x65, 0x00, 0x06, 0x40, 0xc8, 0x8d, 0x2a, 0xe0, 0x48, 0xf6, 0x92, 0x5a,
-];
+const FORTY_ROOTS: &str = "0a8d2b6231538209cb6259114d6c4d473f3135b365000640c88d2ae048f6925a";
 
 // The first bytes of the roots of both lists over the short digest.
-const FIVE_SHORT_ROOTS: [u8; 5] = [0x02, 0x01, 0xe5, 0x98, 0xe0];
+const FIVE_SHORT_ROOTS: &str = "0201e598e0";
 
-const FORTY_SHORT_ROOTS: [u8; 40] = [
-    0x93, 0x3f, 0xc4, 0xf6, 0x8f, 0x14, 0x3e, 0x2e, 0x47, 0xea, 0x07, 0x4c, 0xfd, 0x97, 0x60, 0x90,
-    0xc1, 0xbb, 0x2f, 0x5d, 0xb8, 0x01, 0x38, 0x76, 0x1d, 0xe4, 0x85, 0xe4, 0xc4, 0xc0, 0xa1, 0xd6,
-    0x75, 0x53, 0x4b, 0x40, 0x1f, 0x95, 0x90, 0x58,
-];
+const FORTY_SHORT_ROOTS: &str =
+    "933fc4f68f143e2e47ea074cfd976090c1bb2f5db80138761de485e4c4c0a1d675534b401f959058";
 
 fn letters(alloc: Global) -> Result<Texts, AllocError> {
     let mut texts = Vec::new(alloc);
@@ -64,38 +38,43 @@ fn numbered(alloc: Global, count: u32) -> Result<Texts, AllocError> {
     Ok(Texts::of(texts))
 }
 
+// The first bytes of the roots of all versions of the texts, `count` bytes of each, one after the other.
+fn roots<D: Digester>(alloc: Global, texts: &Texts, count: usize) -> Result<Vec<u8>, AllocError> {
+    let mut all = Vec::new(alloc);
+    for i in 0..texts.len() {
+        let root = root_at::<D>(texts, i as u64 + 1);
+        all.extend_from_slice(&root[..count.min(32)])?;
+    }
+    Ok(all)
+}
+
 #[test]
 fn roots_are_those_of_an_independent_program(rt: HostRuntime) -> Result<(), Fail> {
-    let texts = letters(rt.alloc())?;
-    assert_eq!(rt; texts.len(), 5);
+    let roots = roots::<Sha>(rt.alloc(), &letters(rt.alloc())?, 32)?;
     for (i, want) in FIVE_ROOTS.iter().enumerate() {
-        assert!(rt; i < texts.len());
-        assert_eq!(rt; root_at::<Sha>(&texts, i as u64 + 1), *want);
+        let root = roots.get(32 * i..32 * i + 32).ok_or("a root")?;
+        assert_eq!(rt; hex::encode(rt.alloc(), root)?.as_str(), *want);
     }
-    let texts = numbered(rt.alloc(), 40)?;
-    assert_eq!(rt; texts.len(), 40);
-    let mut roots = Vec::new(rt.alloc());
-    for v in 1..41 {
-        roots.extend_from_slice(&root_at::<Sha>(&texts, v))?;
-    }
-    assert_eq!(rt; Sha::digest(&roots), FORTY_ROOTS);
+    Ok(())
+}
+
+#[test]
+fn roots_of_forty_texts_are_those_of_an_independent_program(rt: HostRuntime) -> Result<(), Fail> {
+    let roots = roots::<Sha>(rt.alloc(), &numbered(rt.alloc(), 40)?, 32)?;
+    let digest = hex::encode(rt.alloc(), Sha::digest(&roots))?;
+    assert_eq!(rt; digest.as_str(), FORTY_ROOTS);
     Ok(())
 }
 
 #[test]
 fn short_roots_are_those_of_an_independent_program(rt: HostRuntime) -> Result<(), Fail> {
     let lists = [
-        (letters(rt.alloc())?, FIVE_SHORT_ROOTS.as_slice()),
-        (numbered(rt.alloc(), 40)?, FORTY_SHORT_ROOTS.as_slice()),
+        (letters(rt.alloc())?, FIVE_SHORT_ROOTS),
+        (numbered(rt.alloc(), 40)?, FORTY_SHORT_ROOTS),
     ];
-    for (texts, firsts) in &lists {
-        assert_eq!(rt; texts.len(), firsts.len());
-        for (i, first) in firsts.iter().enumerate() {
-            assert!(rt; i < texts.len());
-            let root = root_at::<Short>(texts, i as u64 + 1);
-            assert_eq!(rt; root[0], *first);
-            assert_eq!(rt; &root[1..], [0; 31].as_slice());
-        }
+    for (texts, want) in &lists {
+        let firsts = roots::<Short>(rt.alloc(), texts, 1)?;
+        assert_eq!(rt; hex::encode(rt.alloc(), firsts)?.as_str(), *want);
     }
     Ok(())
 }
