@@ -32,7 +32,8 @@ impl<D: Digester> Model for Dict<D> {
 
     ghost view = { λ d. slice_range (arc_value d.list).items d.from d.to };
 
-    ghost invariant = { λ d. (d.from < d.to) × (d.to ≤ length (arc_value d.list).items) × IsRising (slice_range (arc_value d.list).items d.from d.to) };
+    ghost invariant = { λ d. (d.from < d.to) × (d.to ≤ length (arc_value d.list).items)
+        × IsRising (slice_range (arc_value d.list).items d.from d.to) };
 }
 
 impl<D: Digester> Dict<D> {

@@ -15,5 +15,6 @@ pub fn lists<D: Digester>(dict: &Dict<D>)
 
 /// Where two users have entries, neither is the only one.
 pub fn others()
-    ensures { (es : List Entry) (a b : ℕ) → IsSome (entry_of es a) → IsSome (entry_of es b) → a ≢ b → 1 < length es }
+    ensures { (es : List Entry) (a b : ℕ)
+        → IsSome (entry_of es a) → IsSome (entry_of es b) → a ≢ b → 1 < length es }
 {}

@@ -1,7 +1,9 @@
 -- The laws of the first difference of two trees: what is found is a collision, and under one digest
 -- nothing is found exactly where the lists are equal.
-use Rattle.std.proofs.Common.{◌≡◌, ◌⊎◌, ◌↔◌, ℕ, zero, suc, ◌-◌, ◌^◌, ◌<◌, ◌≤◌, true, false, List, [], ◌∷◌, ◌++◌, length, take, drop, get_or, Option, None, Some, IsNone, refl, ap, sym, ◌∙◌, inl, inr, arith}
-use Rattle.std.proofs.lemmas.Bool.{cases_Bool, cases_lt, lt-ltb, le-ltb}
+use Rattle.std.proofs.Common.{◌≡◌, ◌⊎◌, ◌↔◌, ℕ, zero, suc, ◌-◌, ◌^◌, ◌<◌, ◌≤◌, true, false, List, [], ◌∷◌, ◌++◌, length, take, drop, get_or, Option, None, Some, IsNone, refl, ap, sym, subst, ◌∙◌, inl, inr, arith}
+use Rattle.std.proofs.lemmas.Bool.{and_from, and_parts, cases_Bool, cases_lt, eq-eqb, lt-ltb, le-ltb}
+use Rattle.std.specs.Prelude.{nat_eq}
+use Rattle.std.specs.Cmp.Lexicographic.{pointwise, same_text}
 use Rattle.std.proofs.lemmas.Bool.Decides.{not_from_Decides}
 use Rattle.std.proofs.lemmas.List.{length-drop, length-take-le, take-append-drop}
 use Rattle.std.proofs.lemmas.Nat.{pow_pos}
@@ -258,3 +260,25 @@ list_difference-decides d sized a b some lengths roots (Some found) is =
 pub list_difference-at : (d : List ℕ → List ℕ) (a b : List (List ℕ)) (height : ℕ) → height ≡ depth (length a) → length a ≡ length b → list_difference d a b ≡ difference d (tree_of d height a) (tree_of d height b)
 unfolding list_difference history_tree
 list_difference-at d a b height is lengths = rw (is, sym (ap depth lengths)) refl
+
+-- ---- one list
+
+-- what a test of two lists of texts tells
+texts-same : (a b : List (List ℕ)) → pointwise (pointwise nat_eq) a b ≡ true → a ≡ b
+texts-same [] [] h = refl
+texts-same [] (y ∷ b) h = absurd cc
+texts-same (x ∷ a) [] h = absurd cc
+texts-same (x ∷ a) (y ∷ b) h =
+    let parts = and_parts (pointwise nat_eq x y) (pointwise (pointwise nat_eq) a b) h in
+    ap (λ (t : List ℕ). t ∷ a) (same_text x y (sym parts.0)) ∙ ap (λ (ts : List (List ℕ)). y ∷ ts) (texts-same a b parts.1)
+
+text-test : (x : List ℕ) → pointwise nat_eq x x ≡ true
+text-test [] = refl
+text-test (n ∷ x) = and_from (nat_eq n n) (pointwise nat_eq x x) (eq-eqb n n refl) (text-test x)
+
+texts-test : (a : List (List ℕ)) → pointwise (pointwise nat_eq) a a ≡ true
+texts-test [] = refl
+texts-test (x ∷ a) = and_from (pointwise nat_eq x x) (pointwise (pointwise nat_eq) a a) (text-test x) (texts-test a)
+
+pub texts-decided : (a b : List (List ℕ)) → (pointwise (pointwise nat_eq) a b ≡ true) ↔ (a ≡ b)
+texts-decided a b = (texts-same a b, λ same. subst (λ (c : List (List ℕ)). pointwise (pointwise nat_eq) a c ≡ true) same (texts-test a))

@@ -11,35 +11,36 @@ pub data Tree : Type 0 where
   unshown : Tree
   node : List ℕ → Tree → Tree → Tree
 
--- The strings of two nodes in the same place, where they differ and their digests agree.
-unfoldable pub clash_at : (List ℕ → List ℕ) → List ℕ → List ℕ → Option Strings
-clash_at d a b =
-    if bytes_eq a b then None
-    else if bytes_eq (d a) (d b) then Some (record { a = a; b = b })
-    else None
+module _ (d : List ℕ → List ℕ) where
+  -- The strings of two nodes in the same place, where they differ and their digests agree.
+  unfoldable pub clash_at : List ℕ → List ℕ → Option Strings
+  clash_at a b =
+      if bytes_eq a b then None
+      else if bytes_eq (d a) (d b) then Some (record { a = a; b = b })
+      else None
 
--- The strings of the first such nodes in pre-order: the nodes themselves, then their left, then their
--- right trees.
-unfoldable pub difference : (List ℕ → List ℕ) → Tree → Tree → Option Strings
-difference d unshown t = None
-difference d (node a left right) unshown = None
-difference d (node a left right) (node b left' right') =
-    option_or (clash_at d a b) (option_or (difference d left left') (difference d right right'))
+  -- The strings of the first such nodes in pre-order: the nodes themselves, then their left, then their
+  -- right trees.
+  unfoldable pub difference : Tree → Tree → Option Strings
+  difference unshown t = None
+  difference (node a left right) unshown = None
+  difference (node a left right) (node b left' right') =
+      option_or (clash_at a b) (option_or (difference left left') (difference right right'))
 
--- ---- the tree over a list
+  -- ---- the tree over a list
 
--- The strings of the node of height j over the texts, and of the nodes below it.
-unfoldable pub tree_of : (List ℕ → List ℕ) → ℕ → List (List ℕ) → Tree
-tree_of d zero texts = node (node_string d zero texts) unshown unshown
-tree_of d (suc j) texts =
-    if nat_lt (2 ^ j) (length texts)
-    then node (node_string d (suc j) texts) (tree_of d j (take (2 ^ j) texts)) (tree_of d j (drop (2 ^ j) texts))
-    else node (node_string d (suc j) texts) (tree_of d j texts) unshown
+  -- The strings of the node of height j over the texts, and of the nodes below it.
+  unfoldable pub tree_of : ℕ → List (List ℕ) → Tree
+  tree_of zero texts = node (node_string d zero texts) unshown unshown
+  tree_of (suc j) texts =
+      if nat_lt (2 ^ j) (length texts)
+      then node (node_string d (suc j) texts) (tree_of j (take (2 ^ j) texts)) (tree_of j (drop (2 ^ j) texts))
+      else node (node_string d (suc j) texts) (tree_of j texts) unshown
 
--- The strings of the history tree of the texts.
-unfoldable pub history_tree : (List ℕ → List ℕ) → List (List ℕ) → Tree
-history_tree d texts = tree_of d (depth (length texts)) texts
+  -- The strings of the history tree of the texts.
+  unfoldable pub history_tree : List (List ℕ) → Tree
+  history_tree texts = tree_of (depth (length texts)) texts
 
--- The first difference of the history trees of two lists of texts.
-unfoldable pub list_difference : (List ℕ → List ℕ) → List (List ℕ) → List (List ℕ) → Option Strings
-list_difference d a b = difference d (history_tree d a) (history_tree d b)
+  -- The first difference of the history trees of two lists of texts.
+  unfoldable pub list_difference : List (List ℕ) → List (List ℕ) → Option Strings
+  list_difference a b = difference (history_tree a) (history_tree b)

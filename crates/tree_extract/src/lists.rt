@@ -1,6 +1,6 @@
 ghost use Rattle.fr_digest.specs.Collision.{Collides};
 ghost use Rattle.std.specs.Option.{option_or};
-ghost use Rattle.std.specs.Prelude.{◌≡◌, ◌<◌, ◌≤◌, ◌^◌, ◌↔◌, length, IfOk, IfSome, IsNone, IsOk};
+ghost use Rattle.std.specs.Prelude.{◌≡◌, ◌<◌, ◌≤◌, ◌^◌, ◌↔◌, length, IfOk, IfSome, IsNone, IsOk, IsTrue};
 ghost use Rattle.tree_extract.specs.Difference.{clash_at, difference, list_difference, tree_of};
 ghost use Rattle.tree_extract.specs.NodeString.{IsShaped, found_strings, spelled, strings_of};
 ghost use Rattle.tree_model.specs.History.{part, root};
@@ -15,7 +15,8 @@ use tree_model::{depth_of, left_leaves};
 /// the first nodes, in pre-order of their history trees, whose strings differ and whose digests agree,
 /// with the first list's string first.
 ///
-/// No text is hashed twice. Memory is taken for the two strings alone, so equal lists take none.
+/// Equal lists are only compared: nothing of them is hashed. Of others no text is hashed twice. Memory is
+/// taken for the two strings alone, so equal lists take none.
 pub fn list_clash<D: Digester>(
     alloc: Global,
     a: &Texts,
@@ -46,10 +47,20 @@ pub fn slice_clash<D: Digester>(
     ensures collides { IfOk result (λ clash. IfSome clash (Collides D.digest_of)) }
     ensures equal_take_no_memory { a.now ≡ b.now → IsOk result }
 {
+    if is_same(a, b) {
+        return Ok(None);
+    }
     match first_difference::<D>(a, b) {
         None => Ok(None),
         Some(found) => clash_of(alloc, &found),
     }
+}
+
+/// Whether both are one list of texts. Nothing is hashed.
+fn is_same(a: &[Bytes], b: &[Bytes]) -> bool
+    ensures { IsTrue result ↔ (a.now ≡ b.now) }
+{
+    a == b
 }
 
 /// The clash of two strings that differ and have one digest.
@@ -87,7 +98,8 @@ fn compare<'a, D: Digester>(a: &'a [Bytes], b: &'a [Bytes], level: u32) -> Compa
     requires levels { level ≤ 64 }
     ensures a { result.a ≡ part D.digest_of level a.now }
     ensures b { result.b ≡ part D.digest_of level b.now }
-    ensures found { found_strings result.found ≡ difference D.digest_of (tree_of D.digest_of level a.now) (tree_of D.digest_of level b.now) }
+    ensures found { found_strings result.found
+        ≡ difference D.digest_of (tree_of D.digest_of level a.now) (tree_of D.digest_of level b.now) }
 {
     if level == 0 {
         return compare_nodes::<D>(
@@ -127,7 +139,8 @@ fn compare_nodes<'a, D: Digester>(
     requires shaped_b { IsShaped b }
     ensures a { result.a ≡ D.digest_of (spelled a.entry) }
     ensures b { result.b ≡ D.digest_of (spelled b.entry) }
-    ensures found { found_strings result.found ≡ option_or (clash_at D.digest_of (spelled a.entry) (spelled b.entry)) (found_strings below.entry) }
+    ensures found { found_strings result.found
+        ≡ option_or (clash_at D.digest_of (spelled a.entry) (spelled b.entry)) (found_strings below.entry) }
 {
     let digest_a = a.digest::<D>();
     if a.is_same(&b) {

@@ -17,19 +17,17 @@ fn texts(alloc: Global, items: &[&[u8]]) -> Result<Texts, AllocError> {
     Ok(Texts::of(texts))
 }
 
-// The string of a leaf.
-fn leaf(alloc: Global, text: &[u8]) -> Result<Vec<u8>, AllocError> {
-    let mut string = [0].to_vec(alloc)?;
-    string.extend_from_slice(text)?;
-    Ok(string)
-}
+// A leaf's tag and text, or a node's tag and the first bytes of its short digests.
+type Wanted = (u8, &'static [u8]);
 
-// The string of a node over short digests with these first bytes.
-fn node(alloc: Global, firsts: &[u8]) -> Result<Vec<u8>, AllocError> {
-    let mut string = [1].to_vec(alloc)?;
-    for first in firsts {
-        string.push(*first)?;
-        string.extend_from_slice(&[0; 31])?;
+fn string_of(alloc: Global, wanted: &Wanted) -> Result<Vec<u8>, AllocError> {
+    let (tag, parts) = *wanted;
+    let mut string = [tag].to_vec(alloc)?;
+    for byte in parts {
+        string.push(*byte)?;
+        if tag == 1 {
+            string.extend_from_slice(&[0; 31])?;
+        }
     }
     Ok(string)
 }
@@ -46,88 +44,103 @@ fn clash_between<D: Digester>(
     list_clash::<D>(alloc, a, b)
 }
 
+// Whether two lists of these texts have no clash.
+fn are_equal<D: Digester>(rt: &impl Abort, alloc: Global, all: &[&[u8]]) -> Result<bool, NoMemory> {
+    let a = texts(alloc, all)?;
+    let b = texts(alloc, all)?;
+    let clash = clash_between::<D>(rt, alloc, &a, &b)?;
+    Ok(clash.is_none())
+}
+
 #[test]
 fn equal_lists_have_no_clash(rt: HostRuntime) -> Result<(), Fail> {
-    let alloc = rt.alloc();
     let all = [b"a".as_slice(), b"", b"c", b"d", b"e"];
     for size in 1..6 {
-        let a = texts(alloc, &all[..size])?;
-        let b = texts(alloc, &all[..size])?;
-        assert!(rt; clash_between::<Sha>(&rt, alloc, &a, &b)?.is_none());
-        assert!(rt; clash_between::<Short>(&rt, alloc, &a, &b)?.is_none());
+        assert!(rt; are_equal::<Sha>(&rt, rt.alloc(), &all[..size])?);
+        assert!(rt; are_equal::<Short>(&rt, rt.alloc(), &all[..size])?);
     }
     Ok(())
 }
 
-fn shows(
-    rt: &impl Abort,
-    alloc: Global,
-    a: &[&[u8]],
-    b: &[&[u8]],
-    want_a: &[u8],
-    want_b: &[u8],
-) -> Result<(), Fail> {
+// Both lists.
+fn lists(alloc: Global, a: &[&[u8]], b: &[&[u8]]) -> Result<(Texts, Texts), AllocError> {
     let a = texts(alloc, a)?;
-    let b = texts(alloc, b)?;
-    let clash = clash_between::<Short>(rt, alloc, &a, &b)?.ok_or("no clash")?;
-    assert_eq!(rt; clash.a(), want_a);
-    assert_eq!(rt; clash.b(), want_b);
-    Ok(())
+    Ok((a, texts(alloc, b)?))
 }
 
-#[test]
-fn clashing_leaves_are_shown(rt: HostRuntime) -> Result<(), Fail> {
-    let alloc = rt.alloc();
-    let a = leaf(alloc, b"a")?;
-    let like_a = leaf(alloc, LIKE_A)?;
-    shows(&rt, alloc, &[b"a"], &[LIKE_A], &a, &like_a)?;
-    shows(&rt, alloc, &[LIKE_A], &[b"a"], &like_a, &a)?;
+// The clash of two lists over short digests.
+fn shown(rt: &impl Abort, alloc: Global, a: &[&[u8]], b: &[&[u8]]) -> Result<Clash<Short>, Fail> {
+    let (a, b) = lists(alloc, a, b)?;
+    match clash_between::<Short>(rt, alloc, &a, &b)? {
+        Some(clash) => Ok(clash),
+        None => Err("no clash".into()),
+    }
+}
+
+// Whether its strings are these.
+fn has_strings(
+    alloc: Global,
+    clash: &Clash<Short>,
+    a: &Wanted,
+    b: &Wanted,
+) -> Result<bool, AllocError> {
+    let a = string_of(alloc, a)?;
+    Ok(clash.a() == a.as_slice() && clash.b() == string_of(alloc, b)?.as_slice())
+}
+
+type Row = (
+    &'static [&'static [u8]],
+    &'static [&'static [u8]],
+    Wanted,
+    Wanted,
+);
+
+const CLASHES: [Row; 7] = [
+    // Leaves.
+    (&[b"a"], &[LIKE_A], (0, b"a"), (0, LIKE_A)),
+    (&[LIKE_A], &[b"a"], (0, LIKE_A), (0, b"a")),
     // Two leaves clash: the one on the left comes first.
-    let (b, like_b) = (leaf(alloc, b"b")?, leaf(alloc, b"ly")?);
-    shows(
-        &rt,
-        alloc,
+    (
         &[b"a", b"b", b"c", b"d"],
         &[b"a", b"ly", b"c", b"mw"],
-        &b,
-        &like_b,
-    )?;
+        (0, b"b"),
+        (0, b"ly"),
+    ),
     // A leaf below two nodes without a right half.
-    let (e, like_e) = (leaf(alloc, b"e")?, leaf(alloc, b"fj")?);
-    shows(
-        &rt,
-        alloc,
+    (
         &[b"a", b"b", b"c", b"d", b"e"],
         &[b"a", b"b", b"c", b"d", b"fj"],
-        &e,
-        &like_e,
-    )
-}
-
-#[test]
-fn clashing_nodes_are_shown(rt: HostRuntime) -> Result<(), Fail> {
-    let alloc = rt.alloc();
-    // Both halves are there, and the leaves have other digests.
-    let (a, b) = (node(alloc, &[0x02, 0x57])?, node(alloc, &[0x0b, 0x5f])?);
-    shows(&rt, alloc, &[b"a", b"b"], &[b"ab", b"ej"], &a, &b)?;
+        (0, b"e"),
+        (0, b"fj"),
+    ),
+    // A node with both halves, of leaves of other digests.
+    (
+        &[b"a", b"b"],
+        &[b"ab", b"ej"],
+        (1, b"\x02\x57"),
+        (1, b"\x0b\x5f"),
+    ),
     // A node without a right half.
-    let (a, b) = (node(alloc, &[0x59])?, node(alloc, &[0xba])?);
-    shows(
-        &rt,
-        alloc,
+    (
         &[b"a", b"b", b"c"],
         &[b"a", b"b", b"hz"],
-        &a,
-        &b,
-    )?;
+        (1, b"\x59"),
+        (1, b"\xba"),
+    ),
     // A node comes before the leaf below it, which clashes too.
-    let (a, b) = (node(alloc, &[0x02, 0x02])?, node(alloc, &[0x02, 0x2c])?);
-    shows(
-        &rt,
-        alloc,
+    (
         &[b"a", b"a", b"c", b"d"],
         &[LIKE_A, b"ag", b"c", b"d"],
-        &a,
-        &b,
-    )
+        (1, b"\x02\x02"),
+        (1, b"\x02\x2c"),
+    ),
+];
+
+#[test]
+fn the_first_clash_in_pre_order_is_shown(rt: HostRuntime) -> Result<(), Fail> {
+    for (a, b, want_a, want_b) in &CLASHES {
+        let clash = shown(&rt, rt.alloc(), a, b)?;
+        assert!(rt; has_strings(rt.alloc(), &clash, want_a, want_b)?);
+    }
+    Ok(())
 }

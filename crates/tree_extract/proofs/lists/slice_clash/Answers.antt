@@ -9,6 +9,10 @@ use Rattle.tree_extract.proofs.lists.slice_clash.Goals as goal
 some_none : (s : Strings) → Some s ≡ None → ⊥
 some_none s e = cc
 
+pub returns-then-is_same-clause-value : goal.returns-then-is_same-clause-value
+returns-then-is_same-clause-value g c =
+    sym (list_difference-same g.D.Digester.digest_of c.args.a.now c.args.b.now (c.is_same.ensures.0 c.if-is_same.true))
+
 pub clash_of-requires : goal.clash_of-requires
 clash_of-requires g c =
     let is : list_difference g.D.Digester.digest_of c.args.a.now c.args.b.now ≡ Some (strings_of c.in-Some.found) =
