@@ -8,13 +8,16 @@ use crate::chain::{element, input_of, run_chain, start_chain};
 use crate::coefficients::{Dig, digits, top_digit};
 use crate::hashes::{PUBLIC_KEY, hasher_of, message_hash};
 use sha2::Digest;
+use thiserror::Error;
 
 /// Why bytes are no one-time signature of a row.
-#[derive(Clone, Copy, Debug, PartialEq, Eq, Drop)]
+#[derive(Clone, Copy, Debug, PartialEq, Eq, Drop, Error)]
 pub enum OtsRefusal {
     /// They are not as many as the row's signatures have.
+    #[error("a one-time signature of {found} bytes, where its row has {needed}")]
     Length { found: usize, needed: usize },
     /// Their typecode is not the row's.
+    #[error("a one-time signature of typecode {found}, where the row has {needed}")]
     Code { found: u32, needed: u32 },
 }
 

@@ -1,156 +1,118 @@
 use crate::{Dig, OtsRefusal, digits, ots_candidate, ots_public, ots_sign};
+use hex::FromHex;
 use sha2::{Digest, Sha256};
+use std::test::Fail;
 
 #[test]
 fn digits_of_zeros(rt: HostRuntime) {
-    let zeros = [0; 32];
     let mut wanted = [0u8; 34];
     wanted[32] = 31;
     wanted[33] = 224;
-    assert_eq!(rt; digits::<4, 8, 34, 0>(&zeros), wanted);
+    assert_eq!(rt; digits::<4, 8, 34, 0>(&[0; 32]), wanted);
     let mut wanted = [0u8; 67];
     wanted[64] = 3;
     wanted[65] = 12;
-    assert_eq!(rt; digits::<3, 4, 67, 4>(&zeros), wanted);
+    assert_eq!(rt; digits::<3, 4, 67, 4>(&[0; 32]), wanted);
+}
+
+#[test]
+fn narrow_digits_of_zeros(rt: HostRuntime) {
     let mut wanted = [0u8; 133];
     wanted[128] = 1;
     wanted[129] = 2;
-    assert_eq!(rt; digits::<2, 2, 133, 6>(&zeros), wanted);
+    assert_eq!(rt; digits::<2, 2, 133, 6>(&[0; 32]), wanted);
     let mut wanted = [0u8; 265];
     wanted[256] = 1;
-    assert_eq!(rt; digits::<1, 1, 265, 7>(&zeros), wanted);
+    assert_eq!(rt; digits::<1, 1, 265, 7>(&[0; 32]), wanted);
 }
 
-// A key's identifier and seed, and the SHA-256 digest of its signature of the empty message at leaf
-// 0, which another implementation made.
-struct Key {
-    id: [u8; 16],
-    private: Dig,
-    signature: Dig,
+// For each row of the table a key's identifier and seed, and the SHA-256 digest of its signature of the
+// empty message at leaf 0, which another implementation made.
+const KEYS: [(u32, &str, &str, &str); 4] = [
+    (
+        1,
+        "b78f2abd266085eb7a1c90724779eaa4",
+        "5e64365203613dcb8dcec45da3db6e56ca1d2f55c6dfdfa4e6b460017e220187",
+        "88411ebcd2247bebbc044d531fcb53b278c5eddf5d7704e49a77452ab8f40177",
+    ),
+    (
+        2,
+        "bdbfed8b40756811118f2807e7b4bb60",
+        "b058aa06581dee4064015bec1ed56dcd4e0ee0fe161c3271edd36c86dbda092e",
+        "21416c7bf840eb0353c6e7fa8f9d5fb3b186bd1ea6312fd58d3351cd17c7000f",
+    ),
+    (
+        3,
+        "e1fce9569c515cf187c9603245b39b3e",
+        "8baa1d780f03e794a920cdca2680d6be8f6c3c2685224bb365fe211755aed31e",
+        "833f501004e6142341220e65c48898fd612806bc3dab20aa104aa7c53a609d1b",
+    ),
+    (
+        4,
+        "1ef7dcead60e944708f2af8d0f04ee5c",
+        "f76023a7a0c2a769ddfd6881c93d6e5dcb8ee9e45dc13c24cf012cc9600c1c4d",
+        "745b28a83f346d1b41b40c71d736aeb6ed9f9d2d74023acdefc5fe673c9a0b3e",
+    ),
+];
+
+// The digest of a key's signature of the empty message at leaf 0, and whether it leads to the key.
+macro_rules! signed {
+    ($code:literal, $w:literal, $p:literal, $ls:literal, $len:literal, $id:expr, $private:expr) => {{
+        let mut out = [0; $len];
+        ots_sign::<$code, $w, $p, $ls>($id, 0, $private, &[], &mut out);
+        let key = ots_public::<$code, $w, $p, $ls>($id, 0, $private);
+        let candidate = ots_candidate::<$code, $w, $p, $ls>($id, 0, &[], &out);
+        (Sha256::digest(&out), candidate == Ok(key))
+    }};
 }
 
-const KEY_1: Key = Key {
-    id: [
-        0xb7, 0x8f, 0x2a, 0xbd, 0x26, 0x60, 0x85, 0xeb, 0x7a, 0x1c, 0x90, 0x72, 0x47, 0x79, 0xea,
-        0xa4,
-    ],
-    private: [
-        0x5e, 0x64, 0x36, 0x52, 0x03, 0x61, 0x3d, 0xcb, 0x8d, 0xce, 0xc4, 0x5d, 0xa3, 0xdb, 0x6e,
-        0x56, 0xca, 0x1d, 0x2f, 0x55, 0xc6, 0xdf, 0xdf, 0xa4, 0xe6, 0xb4, 0x60, 0x01, 0x7e, 0x22,
-        0x01, 0x87,
-    ],
-    signature: [
-        0x88, 0x41, 0x1e, 0xbc, 0xd2, 0x24, 0x7b, 0xeb, 0xbc, 0x04, 0x4d, 0x53, 0x1f, 0xcb, 0x53,
-        0xb2, 0x78, 0xc5, 0xed, 0xdf, 0x5d, 0x77, 0x04, 0xe4, 0x9a, 0x77, 0x45, 0x2a, 0xb8, 0xf4,
-        0x01, 0x77,
-    ],
-};
+fn signed_by_1(id: &[u8; 16], private: &Dig) -> (Dig, bool) {
+    signed!(1, 1, 265, 7, 8516, id, private)
+}
 
-const KEY_2: Key = Key {
-    id: [
-        0xbd, 0xbf, 0xed, 0x8b, 0x40, 0x75, 0x68, 0x11, 0x11, 0x8f, 0x28, 0x07, 0xe7, 0xb4, 0xbb,
-        0x60,
-    ],
-    private: [
-        0xb0, 0x58, 0xaa, 0x06, 0x58, 0x1d, 0xee, 0x40, 0x64, 0x01, 0x5b, 0xec, 0x1e, 0xd5, 0x6d,
-        0xcd, 0x4e, 0x0e, 0xe0, 0xfe, 0x16, 0x1c, 0x32, 0x71, 0xed, 0xd3, 0x6c, 0x86, 0xdb, 0xda,
-        0x09, 0x2e,
-    ],
-    signature: [
-        0x21, 0x41, 0x6c, 0x7b, 0xf8, 0x40, 0xeb, 0x03, 0x53, 0xc6, 0xe7, 0xfa, 0x8f, 0x9d, 0x5f,
-        0xb3, 0xb1, 0x86, 0xbd, 0x1e, 0xa6, 0x31, 0x2f, 0xd5, 0x8d, 0x33, 0x51, 0xcd, 0x17, 0xc7,
-        0x00, 0x0f,
-    ],
-};
+fn signed_by_2(id: &[u8; 16], private: &Dig) -> (Dig, bool) {
+    signed!(2, 2, 133, 6, 4292, id, private)
+}
 
-const KEY_3: Key = Key {
-    id: [
-        0xe1, 0xfc, 0xe9, 0x56, 0x9c, 0x51, 0x5c, 0xf1, 0x87, 0xc9, 0x60, 0x32, 0x45, 0xb3, 0x9b,
-        0x3e,
-    ],
-    private: [
-        0x8b, 0xaa, 0x1d, 0x78, 0x0f, 0x03, 0xe7, 0x94, 0xa9, 0x20, 0xcd, 0xca, 0x26, 0x80, 0xd6,
-        0xbe, 0x8f, 0x6c, 0x3c, 0x26, 0x85, 0x22, 0x4b, 0xb3, 0x65, 0xfe, 0x21, 0x17, 0x55, 0xae,
-        0xd3, 0x1e,
-    ],
-    signature: [
-        0x83, 0x3f, 0x50, 0x10, 0x04, 0xe6, 0x14, 0x23, 0x41, 0x22, 0x0e, 0x65, 0xc4, 0x88, 0x98,
-        0xfd, 0x61, 0x28, 0x06, 0xbc, 0x3d, 0xab, 0x20, 0xaa, 0x10, 0x4a, 0xa7, 0xc5, 0x3a, 0x60,
-        0x9d, 0x1b,
-    ],
-};
+fn signed_by_3(id: &[u8; 16], private: &Dig) -> (Dig, bool) {
+    signed!(3, 4, 67, 4, 2180, id, private)
+}
 
-const KEY_4: Key = Key {
-    id: [
-        0x1e, 0xf7, 0xdc, 0xea, 0xd6, 0x0e, 0x94, 0x47, 0x08, 0xf2, 0xaf, 0x8d, 0x0f, 0x04, 0xee,
-        0x5c,
-    ],
-    private: [
-        0xf7, 0x60, 0x23, 0xa7, 0xa0, 0xc2, 0xa7, 0x69, 0xdd, 0xfd, 0x68, 0x81, 0xc9, 0x3d, 0x6e,
-        0x5d, 0xcb, 0x8e, 0xe9, 0xe4, 0x5d, 0xc1, 0x3c, 0x24, 0xcf, 0x01, 0x2c, 0xc9, 0x60, 0x0c,
-        0x1c, 0x4d,
-    ],
-    signature: [
-        0x74, 0x5b, 0x28, 0xa8, 0x3f, 0x34, 0x6d, 0x1b, 0x41, 0xb4, 0x0c, 0x71, 0xd7, 0x36, 0xae,
-        0xb6, 0xed, 0x9f, 0x9d, 0x2d, 0x74, 0x02, 0x3a, 0xcd, 0xef, 0xc5, 0xfe, 0x67, 0x3c, 0x9a,
-        0x0b, 0x3e,
-    ],
-};
+fn signed_by_4(id: &[u8; 16], private: &Dig) -> (Dig, bool) {
+    signed!(4, 8, 34, 0, 1124, id, private)
+}
 
-#[test]
-fn signatures_by_narrow_digits(rt: HostRuntime) {
-    let mut out = [0; 8516];
-    ots_sign::<1, 1, 265, 7>(&KEY_1.id, 0, &KEY_1.private, &[], &mut out);
-    assert_eq!(rt; Sha256::digest(&out), KEY_1.signature);
-    let key = ots_public::<1, 1, 265, 7>(&KEY_1.id, 0, &KEY_1.private);
-    assert_eq!(rt;
-        ots_candidate::<1, 1, 265, 7>(&KEY_1.id, 0, &[], &out),
-        Ok(key)
-    );
-
-    let mut out = [0; 4292];
-    ots_sign::<2, 2, 133, 6>(&KEY_2.id, 0, &KEY_2.private, &[], &mut out);
-    assert_eq!(rt; Sha256::digest(&out), KEY_2.signature);
-    let key = ots_public::<2, 2, 133, 6>(&KEY_2.id, 0, &KEY_2.private);
-    assert_eq!(rt;
-        ots_candidate::<2, 2, 133, 6>(&KEY_2.id, 0, &[], &out),
-        Ok(key)
-    );
+fn signed(code: u32, id: &str, private: &str) -> Result<(Dig, bool), Fail> {
+    let id = <[u8; 16]>::from_hex(id)?;
+    let private = <[u8; 32]>::from_hex(private)?;
+    Ok(match code {
+        1 => signed_by_1(&id, &private),
+        2 => signed_by_2(&id, &private),
+        3 => signed_by_3(&id, &private),
+        _ => signed_by_4(&id, &private),
+    })
 }
 
 #[test]
-fn signatures_by_wide_digits(rt: HostRuntime) {
-    let mut out = [0; 2180];
-    ots_sign::<3, 4, 67, 4>(&KEY_3.id, 0, &KEY_3.private, &[], &mut out);
-    assert_eq!(rt; Sha256::digest(&out), KEY_3.signature);
-    let key = ots_public::<3, 4, 67, 4>(&KEY_3.id, 0, &KEY_3.private);
-    assert_eq!(rt;
-        ots_candidate::<3, 4, 67, 4>(&KEY_3.id, 0, &[], &out),
-        Ok(key)
-    );
-
-    let mut out = [0; 1124];
-    ots_sign::<4, 8, 34, 0>(&KEY_4.id, 0, &KEY_4.private, &[], &mut out);
-    assert_eq!(rt; Sha256::digest(&out), KEY_4.signature);
-    let key = ots_public::<4, 8, 34, 0>(&KEY_4.id, 0, &KEY_4.private);
-    assert_eq!(rt;
-        ots_candidate::<4, 8, 34, 0>(&KEY_4.id, 0, &[], &out),
-        Ok(key)
-    );
+fn signatures_are_those_of_another_implementation(rt: HostRuntime) -> Result<(), Fail> {
+    for (code, id, private, signature) in KEYS {
+        let signature = <[u8; 32]>::from_hex(signature)?;
+        assert_eq!(rt; signed(code, id, private)?, (signature, true));
+    }
+    Ok(())
 }
 
 #[test]
 fn refused_signatures(rt: HostRuntime) {
-    let id = [0x44; 16];
     let mut sig = [0; 1124];
     sig[3] = 3;
-    let short = ots_candidate::<4, 8, 34, 0>(&id, 0, &[], &sig[..1123]);
+    let short = ots_candidate::<4, 8, 34, 0>(&[0x44; 16], 0, &[], &sig[..1123]);
     let refusal = OtsRefusal::Length {
         found: 1123,
         needed: 1124,
     };
     assert_eq!(rt; short, Err(refusal));
-    let other_code = ots_candidate::<4, 8, 34, 0>(&id, 0, &[], &sig);
+    let other_code = ots_candidate::<4, 8, 34, 0>(&[0x44; 16], 0, &[], &sig);
     let refusal = OtsRefusal::Code {
         found: 3,
         needed: 4,

@@ -4,3 +4,4 @@ pub mod Decided
 pub mod Levels
 pub mod SigningLaw
 pub mod Written
+pub mod KeyStrings

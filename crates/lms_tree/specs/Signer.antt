@@ -43,8 +43,9 @@ signature_at private id pair index message =
 -- the tree of a seed as a list: T[r] stands at place r
 pub record HoldsTree (private id : List ℕ) (pair : Pair) (nodes : List (List ℕ)) : Type 0 where
   pub count : length nodes ≡ 2 * 2 ^ pair.lms.h
-  pub held : (level r : ℕ) → level ≤ pair.lms.h → 2 ^ (pair.lms.h - level) ≤ r → r < 2 * 2 ^ (pair.lms.h - level) →
-      slice_index_or nodes r [] ≡ node private id pair level r
+  pub held : (level r : ℕ) → level ≤ pair.lms.h
+      → 2 ^ (pair.lms.h - level) ≤ r → r < 2 * 2 ^ (pair.lms.h - level)
+      → slice_index_or nodes r [] ≡ node private id pair level r
 
 -- the sibling of the node so many levels above leaf r, read in such a list
 unfoldable pub sibling_in : List (List ℕ) → ℕ → ℕ → List ℕ

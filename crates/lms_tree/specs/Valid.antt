@@ -1,10 +1,11 @@
 -- LMS keys and signatures, by RFC 8554, sections 5.3 and 5.4. H is SHA-256, I the identifier of the
 -- tree, h its height; the node numbered 1 is the root and the leaves are 2^h to 2^(h+1) - 1.
-use Rattle.std.specs.Prelude.{◌≡◌, ◌<◌, ℕ, zero, suc, ◌+◌, ◌*◌, ◌/◌, ◌%◌, ◌^◌, Bool, ◌&&◌, ◌==◌, nat_lt, if◌then◌else◌, List, ◌++◌, length, slice_range}
+use Rattle.std.specs.Prelude.{◌≡◌, ◌<◌, ℕ, zero, suc, ◌+◌, ◌*◌, ◌/◌, ◌%◌, ◌^◌, Bool, ◌&&◌, ◌==◌, nat_lt, if◌then◌else◌, List, ◌++◌, length, slice_range, Option}
+use Rattle.std.specs.Option.{option_map}
 use Rattle.std.specs.Str.{bytes_eq}
 use Rattle.sha2.specs.Sha256.{sha256}
 use Rattle.lms_params.specs.declared.pair.Pair.{Pair}
-use Rattle.lms_params.specs.Parameters.{ots_row}
+use Rattle.lms_params.specs.Parameters.{ots_row, pair_at}
 use Rattle.lms_ots.specs.Digits.{number_at, u16str, u32str}
 use Rattle.lms_ots.specs.OneTime.{candidate_key}
 
@@ -25,6 +26,12 @@ key_by lms h code w p ls id root = record {
 -- u32str(type) || u32str(otstype) || I || T[1] (section 5.3)
 unfoldable pub key_bytes : Key → List ℕ
 key_bytes key = u32str key.pair.lms.code ++ u32str key.pair.ots.code ++ key.id ++ key.root
+
+-- the key that 56 bytes are, where the tables have a pair of its two typecodes (section 5.3)
+abbrev pub key_at : List ℕ → Option Key
+key_at bytes =
+    option_map (λ pair. record { pair = pair; id = slice_range bytes 8 24; root = slice_range bytes 24 56 })
+    (pair_at (number_at bytes 0) (number_at bytes 4))
 
 -- T[r] of a leaf: H(I || u32str(r) || u16str(D_LEAF) || K) (section 5.3)
 unfoldable pub leaf_node : List ℕ → ℕ → List ℕ → List ℕ

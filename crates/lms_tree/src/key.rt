@@ -1,19 +1,21 @@
-ghost use Rattle.std.specs.Prelude.{◌≡◌, ◌≢◌, ◌↔◌, None, Some, IfOk, length, slice_range};
-ghost use Rattle.lms_params.specs.Parameters.{IsListed, pair_at};
-ghost use Rattle.lms_ots.specs.Digits.{number_at};
-ghost use Rattle.lms_tree.specs.Valid.{key_bytes};
+ghost use Rattle.std.specs.Prelude.{◌≡◌, ◌≢◌, ◌↔◌, None, Some, IfOk, length};
+ghost use Rattle.lms_params.specs.Parameters.{IsListed};
+ghost use Rattle.lms_tree.specs.Valid.{Key, key_at, key_bytes};
 
 use fr_bytes::Sequence;
 use lms_ots::{Dig, number_at, write_at};
 use lms_params::{Pair, pair_of};
 use std::marker::Model;
+use thiserror::Error;
 
 /// Why bytes are no public key.
-#[derive(Clone, Copy, Debug, PartialEq, Eq, Drop)]
+#[derive(Clone, Copy, Debug, PartialEq, Eq, Drop, Error)]
 pub enum KeyRefusal {
     /// They are not 56.
+    #[error("a public key has 56 bytes")]
     Length,
     /// Their two typecodes are no pair of the tables.
+    #[error("the two typecodes of a public key are no pair of the tables")]
     UnknownCode,
 }
 
@@ -50,12 +52,8 @@ impl PublicKey {
     /// pair of the two typecodes.
     pub fn read(bytes: &[u8]) -> Result<PublicKey, KeyRefusal>
         ensures length { length bytes.now ≢ 56 → result ≡ Err KeyRefusal.Length }
-        ensures unknown { length bytes.now ≡ 56
-            → pair_at (number_at bytes.now 0) (number_at bytes.now 4) ≡ None
-            → result ≡ Err KeyRefusal.UnknownCode }
-        ensures key { (pair : Pair) → length bytes.now ≡ 56
-            → pair_at (number_at bytes.now 0) (number_at bytes.now 4) ≡ Some pair
-            → result ≡ Ok (record { pair = pair; id = slice_range bytes.now 8 24; root = slice_range bytes.now 24 56 }) }
+        ensures unknown { length bytes.now ≡ 56 → key_at bytes.now ≡ None → result ≡ Err KeyRefusal.UnknownCode }
+        ensures key { (key : Key) → length bytes.now ≡ 56 → key_at bytes.now ≡ Some key → result ≡ Ok key }
         ensures spelled { IfOk result (λ key. bytes.now ≡ key_bytes key) }
         ensures listed { IfOk result (λ key. IsListed key.pair) }
     {
@@ -72,9 +70,11 @@ impl PublicKey {
         Ok(PublicKey { pair, id, root })
     }
 
-    /// The 56 bytes of the key: both typecodes, the identifier and the root.
+    /// The 56 bytes of the key: both typecodes, the identifier and the root. [`PublicKey::read`] of them
+    /// is the key.
     pub fn write(&self) -> [u8; 56]
         ensures bytes { result ≡ key_bytes self.now }
+        ensures read { key_at result ≡ Some self.now }
         ensures listed { IsListed self.now.pair }
     {
         let mut out = [0; 56];

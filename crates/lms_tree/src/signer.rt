@@ -11,22 +11,27 @@ use lms_ots::Dig;
 use lms_params::Pair;
 use std::alloc::Global;
 use std::marker::Model;
+use thiserror::Error;
 
 /// Why no signer was made.
-#[derive(Clone, Copy, Debug, PartialEq, Eq, Drop)]
+#[derive(Clone, Copy, Debug, PartialEq, Eq, Drop, Error)]
 pub enum MakeRefusal {
     /// The tree of the pair is higher than 10.
+    #[error("a tree of height {h}, where signers have at most 10")]
     TooTall { h: u32 },
     /// An allocation was refused.
+    #[error("an allocation was refused")]
     NoMemory,
 }
 
 /// Why no signature was made. No leaf was used.
-#[derive(Clone, Copy, Debug, PartialEq, Eq, Drop)]
+#[derive(Clone, Copy, Debug, PartialEq, Eq, Drop, Error)]
 pub enum SignRefusal {
     /// Each leaf of the tree has signed.
+    #[error("each leaf of the tree has signed")]
     Spent,
     /// An allocation was refused.
+    #[error("an allocation was refused")]
     NoMemory,
 }
 

@@ -24,44 +24,88 @@ fn pair_by(lms: u32, ots: u32) -> Result<Pair, Fail>
     }
 }
 
-fn is_as_long(bytes: &[u8], len: usize) -> bool {
-    bytes.len() == len
-}
-
 fn set_byte(bytes: &mut [u8], at: usize, byte: u8) {
     if let Some(place) = bytes.get_mut(at) {
         *place = byte;
     }
 }
 
+// A key of 32 leaves, and its signature of "hi" by its first leaf.
+fn signed(alloc: Global) -> Result<(PublicKey, Vec<u8>), Fail> {
+    let mut signer = Signer::make(alloc, &PRIVATE, &ID, pair_by(5, 4)?)?;
+    let signature = signer.sign(b"hi")?;
+    Ok((signer.public(), signature.into_vec()))
+}
+
 #[test]
-fn one_signature(rt: HostRuntime) -> Result<(), Fail> {
-    let mut signer = Signer::make(rt.alloc(), &PRIVATE, &ID, pair_by(5, 4)?)?;
-    let key = signer.public();
-    let message: &[u8] = b"hi";
-    let mut sig = signer.sign(message)?.into_vec();
-    assert!(rt; is_as_long(&sig, 1292));
-    assert!(rt; verify(&key, message, &sig));
-    assert!(rt; !verify(&key, b"ho", &sig));
-    set_byte(&mut sig, 7, 3);
-    assert!(rt; !verify(&key, message, &sig));
-    set_byte(&mut sig, 7, 4);
-    assert!(rt; verify(&key, message, &sig));
-    let _last = sig.pop();
-    assert!(rt; !verify(&key, message, &sig));
+fn a_signature_is_valid_for_its_message(rt: HostRuntime) -> Result<(), Fail> {
+    let (key, signature) = signed(rt.alloc())?;
+    assert_eq!(rt; signature.len(), 1292);
+    for (message, is_valid) in [("hi", true), ("ho", false), ("", false), ("hi!", false)] {
+        assert_eq!(rt; verify(&key, message.as_bytes(), &signature), is_valid);
+    }
     Ok(())
 }
 
 #[test]
-fn a_signer_is_spent_after_its_leaves(rt: HostRuntime) -> Result<(), Fail> {
-    let mut signer = Signer::make(rt.alloc(), &PRIVATE, &ID, pair_by(5, 1)?)?;
+fn a_changed_signature_is_invalid(rt: HostRuntime) -> Result<(), Fail> {
+    let (key, mut signature) = signed(rt.alloc())?;
+    // The typecodes' last bytes are at 7 and 1131. A leaf is any of the first 32.
+    for (at, byte, is_valid) in [
+        (7, 3, false),
+        (7, 4, true),
+        (1131, 6, false),
+        (1131, 5, true),
+        (3, 32, false),
+        (3, 0, true),
+    ] {
+        set_byte(&mut signature, at, byte);
+        assert_eq!(rt; verify(&key, b"hi", &signature), is_valid);
+    }
+    Ok(())
+}
+
+#[test]
+fn a_signature_has_one_length(rt: HostRuntime) -> Result<(), Fail> {
+    let (key, signature) = signed(rt.alloc())?;
+    assert!(rt; !verify(&key, b"hi", signature.get(..1291).ok_or("a part")?));
+    let mut longer = signature;
+    longer.push(0)?;
+    assert!(rt; !verify(&key, b"hi", &longer));
+    Ok(())
+}
+
+// A signer whose 32 leaves are all used.
+fn spent(alloc: Global) -> Result<Signer, Fail> {
+    let mut signer = Signer::make(alloc, &PRIVATE, &ID, pair_by(5, 1)?)?;
     for _ in 0..32 {
         let _signature = signer.sign(b"again")?;
     }
+    Ok(signer)
+}
+
+#[test]
+fn a_signer_is_spent_after_its_leaves(rt: HostRuntime) -> Result<(), Fail> {
+    let mut signer = spent(rt.alloc())?;
     assert_eq!(rt; signer.left(), 0);
     assert_eq!(rt; signer.sign(b"again").err(), Some(SignRefusal::Spent));
+    Ok(())
+}
+
+#[test]
+fn no_signer_is_made_for_a_tree_higher_than_10(rt: HostRuntime) -> Result<(), Fail> {
     let made = Signer::make(rt.alloc(), &PRIVATE, &ID, pair_by(7, 1)?);
     assert_eq!(rt; made.err(), Some(MakeRefusal::TooTall { h: 15 }));
+    Ok(())
+}
+
+#[test]
+fn refusals_say_why(rt: HostRuntime) -> Result<(), Fail> {
+    let text = format!(in rt.alloc(); "{}", MakeRefusal::TooTall { h: 15 })?;
+    assert_eq!(rt;
+        text.as_str(),
+        "a tree of height 15, where signers have at most 10"
+    );
     Ok(())
 }
 
@@ -121,35 +165,37 @@ fn taken_flips(key: &PublicKey, message: &[u8], signature: &mut [u8], path: usiz
     taken
 }
 
+// Whether a signature of the pair is valid, and isn't where any one element of its path is changed.
+fn is_checked_whole(alloc: Global, lms: u32, ots: u32) -> Result<bool, Fail> {
+    let pair = pair_by(lms, ots)?;
+    let mut signature = signature_of(alloc, pair, b"hi")?;
+    let key = PublicKey::read(&key_bytes(alloc, lms, ots, &root_of(pair))?)?;
+    let path = pair.sig_len().saturating_sub(32 * pair.lms.h as usize);
+    let is_valid = verify(&key, b"hi", &signature);
+    Ok(is_valid && taken_flips(&key, b"hi", &mut signature, path, pair.lms.h) == 0)
+}
+
 #[test]
 fn a_path_is_checked_whole_for_each_pair(rt: HostRuntime) -> Result<(), Fail> {
-    let alloc = rt.alloc();
     for lms in 5..=9 {
         for ots in 1..=4 {
-            let pair = pair_by(lms, ots)?;
-            let mut signature = signature_of(alloc, pair, b"hi")?;
-            let length = pair.sig_len();
-            assert!(rt; is_as_long(&signature, length));
-            let bytes = key_bytes(alloc, lms, ots, &root_of(pair))?;
-            let key = PublicKey::read(&bytes)?;
-            assert!(rt; verify(&key, b"hi", &signature));
-            let path = length.saturating_sub(32 * pair.lms.h as usize);
-            assert_eq!(rt;
-                taken_flips(&key, b"hi", &mut signature, path, pair.lms.h),
-                0
-            );
-            assert!(rt; verify(&key, b"hi", &signature));
+            assert!(rt; is_checked_whole(rt.alloc(), lms, ots)?);
         }
     }
     Ok(())
 }
 
 #[test]
-fn keys_are_read_whole(rt: HostRuntime) -> Result<(), Fail> {
-    let mut bytes = key_bytes(rt.alloc(), 9, 1, &[0x33; 32])?;
+fn a_key_is_read_of_what_is_written(rt: HostRuntime) -> Result<(), Fail> {
+    let bytes = key_bytes(rt.alloc(), 9, 1, &[0x33; 32])?;
     let key = PublicKey::read(&bytes)?;
     assert!(rt; key.write().as_slice() == bytes.as_slice());
-    set_byte(&mut bytes, 3, 10);
+    Ok(())
+}
+
+#[test]
+fn other_bytes_are_no_key(rt: HostRuntime) -> Result<(), Fail> {
+    let mut bytes = key_bytes(rt.alloc(), 10, 1, &[0x33; 32])?;
     assert_eq!(rt;
         PublicKey::read(&bytes).err(),
         Some(KeyRefusal::UnknownCode)

@@ -1,6 +1,7 @@
-use Rattle.std.proofs.Common.{◌≡◌, ◌+◌, ◌++◌, length, take, sym, ap, ◌∙◌, arith}
+use Rattle.std.proofs.Common.{◌≡◌, ◌+◌, ◌++◌, length, take, Some, sym, ap, ◌∙◌, arith}
 use Rattle.lms_ots.specs.Digits.{u32str}
-use Rattle.lms_tree.specs.Valid.{Key, key_bytes}
+use Rattle.lms_tree.specs.Valid.{Key, key_at, key_bytes}
+use Rattle.lms_tree.proofs.KeyStrings.{key_at-key_bytes}
 use Rattle.lms_tree.proofs.Strings.{key_written}
 use Rattle.lms_tree.proofs.key.PublicKey.write.Goals as goal
 
@@ -21,3 +22,12 @@ returns-clause-bytes c =
     key_written key c.write_at.new.out c.write_at-2.new.out c.write_at-3.new.out c.write_at-4.new.out one two three four (omega arith) in
     let seen : key ≡ c.args.self.now = c.self.view_is in
     whole ∙ ap key_bytes seen
+
+pub returns-clause-read : goal.returns-clause-read
+returns-clause-read c =
+    let inside = c.self.inside in
+    let key : Key = record { pair = inside.pair; id = inside.id; root = inside.root } in
+    let seen : key ≡ c.args.self.now = c.self.view_is in
+    let long : length inside.id ≡ 16 = omega arith in
+    let long' : length inside.root ≡ 32 = omega arith in
+    ap key_at (returns-clause-bytes c ∙ ap key_bytes (sym seen)) ∙ key_at-key_bytes key c.self.invariant long long' ∙ ap (λ (k : Key). Some k) seen
