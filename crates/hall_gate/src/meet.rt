@@ -37,7 +37,7 @@ impl<T: Turned> Gate<T> {
     }
 
     // A view that has heard of what the seat has seen.
-    fn note(&self, seat: &mut GateSeat<T>) -> Seat<Option<T>, View<T::Fixed, T::Entry>>
+    pub(crate) fn note(&self, seat: &mut GateSeat<T>) -> Seat<Option<T>, View<T::Fixed, T::Entry>>
         requires { IsSeatOf self.now seat.old }
         ensures seat { IsSeatOf self.now seat.new }
         ensures same { seat.new.seat.me.0.charges ≡ seat.old.seat.me.0.charges }

@@ -3,16 +3,16 @@
 //! time: 2, 4, 8 and 16 threads make 20,000 short turns each, and 200 turns of about 50 microseconds each.
 #![tactic(auto)]
 
-ghost use Rattle.std.specs.Prelude.{◌≢◌, ◌<◌, length};
+ghost use Rattle.std.specs.Prelude.{◌≢◌, ◌<◌, length, IfOk};
 ghost use Rattle.std.specs.List.{AllPairs};
 
 mod clocks;
 mod runs;
 
 use anyhow::{Context, Result};
-use clocks::{Begin, length_of};
+use clocks::{Begin, Spent, length_of};
 use runs::{at_gate, at_mutex};
-use std::alloc::Global;
+use std::alloc::{AllocError, Global};
 use std::sync::Wait;
 use std::thread::Threads;
 use std::time::{Clock, CpuClock};
@@ -34,76 +34,131 @@ const SHORT: Numbers = Numbers {
     padding: 0,
 };
 
-// Prints how many calls there are at the end.
-fn counted<R: Threads + Wait + Sync + Print>(
+// What is printed of a run.
+#[derive(Clone, Copy)]
+enum Kind {
+    Counts,
+    Times(&'static str),
+}
+
+// The turns at the turn lock.
+fn at_lock<R: Threads + Wait + Sync + Print + Clock + CpuClock>(
     rt: &R,
     alloc: Global,
-    callers: &mut [u32],
+    kind: Kind,
+    callers: &[u32],
+    numbers: Numbers,
 ) -> Result<()>
-    requires some { 0 < length callers.old }
-    requires apart { AllPairs (λ c d. c ≢ d) callers.old }
+    requires some { 0 < length callers.now }
+    requires apart { AllPairs (λ c d. c ≢ d) callers.now }
 {
-    let threads = callers.len();
-    let gate = at_gate(rt, alloc, callers, FEW)
+    let begin = Begin::now(rt)?;
+    let calls = at_gate(rt, alloc, callers, numbers)
         .ok()
         .context("memory is wanting")?;
-    let mutex = at_mutex(rt, alloc, callers, FEW);
-    println!(rt; "threads {threads} gate {gate} mutex {mutex}")?;
+    let spent = begin.spent(rt)?;
+    told(rt, kind, callers.len(), "gate", calls, spent)
+}
+
+// The same turns at the `Mutex`.
+fn at_std<R: Threads + Wait + Sync + Print + Clock + CpuClock>(
+    rt: &R,
+    alloc: Global,
+    kind: Kind,
+    callers: &mut [u32],
+    numbers: Numbers,
+) -> Result<()> {
+    let begin = Begin::now(rt)?;
+    let calls = at_mutex(rt, alloc, callers, numbers);
+    let spent = begin.spent(rt)?;
+    told(rt, kind, callers.len(), "mutex", calls, spent)
+}
+
+// Prints a run.
+fn told<R: Print>(
+    rt: &R,
+    kind: Kind,
+    threads: usize,
+    lock: &str,
+    calls: u64,
+    spent: Spent,
+) -> Result<()> {
+    match kind {
+        Kind::Counts => println!(rt; "{threads} {lock} {calls}")?,
+        Kind::Times(name) => {
+            println!(rt;
+                "{name} {threads} {lock} {calls} {} {}",
+                spent.time, spent.processor
+            )?
+        }
+    }
     Ok(())
 }
 
-// Prints what the turns took at each of the two locks.
-fn timed<R: Threads + Wait + Sync + Print + Clock + CpuClock>(
+// The turns of these callers at both locks.
+fn both<R: Threads + Wait + Sync + Print + Clock + CpuClock>(
     rt: &R,
     alloc: Global,
-    kind: &str,
+    kind: Kind,
     callers: &mut [u32],
     numbers: Numbers,
 ) -> Result<()>
     requires some { 0 < length callers.old }
     requires apart { AllPairs (λ c d. c ≢ d) callers.old }
 {
-    let threads = callers.len();
-    let begin = Begin::now(rt)?;
-    let calls = at_gate(rt, alloc, callers, numbers)
-        .ok()
-        .context("memory is wanting")?;
-    let gate = begin.spent(rt)?;
-    println!(rt;
-        "{kind} {threads} gate {calls} {} {}",
-        gate.time, gate.processor
-    )?;
-    let begin = Begin::now(rt)?;
-    let calls = at_mutex(rt, alloc, callers, numbers);
-    let mutex = begin.spent(rt)?;
-    println!(rt;
-        "{kind} {threads} mutex {calls} {} {}",
-        mutex.time, mutex.processor
-    )?;
-    Ok(())
+    at_lock(rt, alloc, kind, callers, numbers)?;
+    at_std(rt, alloc, kind, callers, numbers)
+}
+
+// So many callers.
+fn callers_of(alloc: Global, threads: u32) -> std::result::Result<Vec<u32>, AllocError>
+    ensures { IfOk result (λ callers. AllPairs (λ c d. c ≢ d) callers.items) }
+{
+    let mut callers = Vec::new(alloc);
+    for number in 0..threads {
+        callers.push(number)?;
+    }
+    Ok(callers)
+}
+
+fn run<R: Threads + Wait + Sync + Print + Clock + CpuClock>(
+    rt: &R,
+    alloc: Global,
+    kind: Kind,
+    threads: u32,
+    numbers: Numbers,
+) -> Result<()> {
+    let mut callers = callers_of(alloc, threads)?;
+    if callers.is_empty() {
+        return Ok(());
+    }
+    both(rt, alloc, kind, callers.as_mut_slice(), numbers)
 }
 
 fn main(rt: HostRuntime) -> Result<()> {
     let alloc = rt.alloc();
     let words: Vec<String> = std::env::args(&rt)?.collect(alloc)?;
-    let mut two = [0, 1];
-    let mut four = [0, 1, 2, 3];
-    let mut eight = [0, 1, 2, 3, 4, 5, 6, 7];
-    let mut sixteen = [0, 1, 2, 3, 4, 5, 6, 7, 8, 9, 10, 11, 12, 13, 14, 15];
-    if words.len() < 2 {
-        counted(&rt, alloc, two.as_mut_slice())?;
-        return counted(&rt, alloc, four.as_mut_slice());
-    }
+    let is_timed = words.len() > 1;
     let work = Numbers {
         first: 0,
         many: 200,
         padding: length_of(&rt, alloc, WORK)?,
     };
-    for (kind, numbers) in [("short", SHORT), ("work", work)] {
-        timed(&rt, alloc, kind, two.as_mut_slice(), numbers)?;
-        timed(&rt, alloc, kind, four.as_mut_slice(), numbers)?;
-        timed(&rt, alloc, kind, eight.as_mut_slice(), numbers)?;
-        timed(&rt, alloc, kind, sixteen.as_mut_slice(), numbers)?;
+    for (kind, numbers, threads) in [
+        (Kind::Counts, FEW, 2),
+        (Kind::Counts, FEW, 4),
+        (Kind::Times("short"), SHORT, 2),
+        (Kind::Times("short"), SHORT, 4),
+        (Kind::Times("short"), SHORT, 8),
+        (Kind::Times("short"), SHORT, 16),
+        (Kind::Times("work"), work, 2),
+        (Kind::Times("work"), work, 4),
+        (Kind::Times("work"), work, 8),
+        (Kind::Times("work"), work, 16),
+    ] {
+        if is_timed == matches!(kind, Kind::Times(_)) {
+            run(&rt, alloc, kind, threads, numbers)?;
+        }
     }
     Ok(())
 }
