@@ -40,6 +40,15 @@ fn origin_of(id: &str, private: &str, index: &str) -> Result<Option<Origin>> {
     }))
 }
 
+// What a line says of its signature.
+fn is_valid(word: &str) -> Result<bool> {
+    match word {
+        "valid" => Ok(true),
+        "invalid" => Ok(false),
+        _ => Err(anyhow::anyhow!("a verdict is neither valid nor invalid")),
+    }
+}
+
 /// The line, without its remark.
 pub fn vector_of(alloc: Global, line: &str) -> Result<Vector> {
     let text = match line.split_once(" #") {
@@ -56,7 +65,7 @@ pub fn vector_of(alloc: Global, line: &str) -> Result<Vector> {
     Ok(Vector {
         lms: lms.parse::<u32>().context("reading an LMS typecode")?,
         ots: ots.parse::<u32>().context("reading an LM-OTS typecode")?,
-        is_valid: *says == "valid",
+        is_valid: is_valid(says)?,
         key: bytes_of(alloc, key)?,
         message: bytes_of(alloc, message)?,
         signature: bytes_of(alloc, signature)?,
