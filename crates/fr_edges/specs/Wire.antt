@@ -12,6 +12,10 @@ pub record WireView : Type 0 where
   pub carried : Option (List Carried)
   pub faults : ℕ
 
+-- a straight wire that doesn't tell what it carried
+abbrev pub straight_view : WireView
+straight_view = record { straight = true; carried = None; faults = 0 }
+
 -- the entries that one carry adds: one for a delivery and for a loss
 abbrev pub entries : List ℕ → List ℕ → List ℕ → Result (Unit {0}) CarryEnd → List Carried
 entries request reply out (Ok _) = record { request = request; reply = reply; delivered = Some out } ∷ []

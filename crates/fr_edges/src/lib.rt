@@ -18,7 +18,7 @@ pub use mem_wire::MemWire;
 pub use sink::Sink;
 pub use source::{Failed, Source};
 pub use std_edges::{StdSink, StdSource};
-pub use wire::{Carried, CarryEnd, Straight, Wire};
+pub use wire::{Carried, CarryEnd, Straight, Wire, straight_wires};
 
 #[cfg(test)]
 mod tests;

@@ -1,7 +1,8 @@
-ghost use Rattle.fr_edges.specs.Wire.{Delivers};
+ghost use Rattle.std.specs.Prelude.{◌≡◌, IfOk, length, map, replicate};
+ghost use Rattle.fr_edges.specs.Wire.{Delivers, straight_view};
 
 use fr_bytes::{Bytes, NoMemory};
-use std::alloc::AllocFailed;
+use std::alloc::{AllocError, AllocFailed, Global};
 
 /// Why a carry delivered nothing that may be read.
 #[derive(Clone, Copy, Debug, PartialEq, Eq)]
@@ -77,11 +78,21 @@ pub(crate) fn deliver(bytes: &[u8], out: &mut Vec<u8>) -> Result<(), CarryEnd>
 pub struct Straight;
 
 impl Wire for Straight {
-    ghost use Rattle.std.specs.Prelude.{true, None};
-
-    ghost view = { λ _. record { straight = true; carried = None; faults = 0 } };
+    ghost view = { λ _. straight_view };
 
     fn carry(&mut self, _request: &[u8], reply: &[u8], out: &mut Vec<u8>) -> Result<(), CarryEnd> {
         deliver(reply, out)
     }
+}
+
+/// That many straight wires. Fails for want of memory.
+pub fn straight_wires(alloc: Global, count: usize) -> Result<Vec<Straight>, AllocError>
+    ensures count { IfOk result (λ wires. length wires.items ≡ count) }
+    ensures views { IfOk result (λ wires. map ⟦<Straight as Wire>⟧.view wires.items ≡ replicate count straight_view) }
+{
+    let mut wires = Vec::new(alloc);
+    for _ in 0..count {
+        wires.push(Straight)?;
+    }
+    Ok(wires)
 }

@@ -2,12 +2,15 @@
 //! output.
 #![tactic(auto)]
 
-ghost use Rattle.std.specs.Prelude.{◌≡◌, length, IfOk};
+ghost use Rattle.std.specs.Prelude.{◌≡◌, map, IfOk};
+ghost use Rattle.frient.specs.Status.{EndsWith, words_in};
 
-use fr_edges::{Sink, Source, StdSink, StdSource, Straight};
+use fr_digest::{Digester, Sha};
+use fr_edges::{Sink, Source, StdSink, StdSource, straight_wires};
 use frient_run::run_frient;
 use std::alloc::{AllocError, Global};
 use std::env;
+use std::io::ErrorKind;
 use std::process::ExitCode;
 use std::sync::Wait;
 use std::thread::Threads;
@@ -20,9 +23,10 @@ const NO_MEMORY: u8 = 6;
 
 fn main(rt: HostRuntime) -> ExitCode {
     let alloc = rt.alloc();
-    // Arguments that can't be had as text count as no words.
     let arguments = match env::args(&rt) {
         Ok(arguments) => arguments.collect(alloc),
+        Err(error) if error.kind() == ErrorKind::OutOfMemory => Err(AllocError),
+        // Arguments that can't be had as text count as no words.
         Err(_) => Ok(Vec::new(alloc)),
     };
     let Ok(arguments) = arguments else {
@@ -30,8 +34,7 @@ fn main(rt: HostRuntime) -> ExitCode {
     };
     let mut source = StdSource::new(rt.stdin());
     let mut sink = StdSink::new(rt.stdout());
-    let status = status(&rt, alloc, &arguments, &mut source, &mut sink);
-    ExitCode::from(status.unwrap_or(NO_MEMORY))
+    ExitCode::from(status(&rt, alloc, &arguments, &mut source, &mut sink))
 }
 
 // The status of a run over straight wires; the first argument is the program's name.
@@ -41,21 +44,23 @@ fn status<R: Threads + Wait + Sync, S: Source, K: Sink>(
     arguments: &[String],
     source: &mut S,
     sink: &mut K,
-) -> Result<u8, AllocError> {
-    let mut words = Vec::new(alloc);
-    for argument in arguments.iter().skip(1) {
-        words.push(argument.as_str())?;
-    }
-    let mut wires = wires(alloc)?;
-    Ok(run_frient(rt, alloc, &words, source, sink, &mut wires).status)
+) -> u8
+    ensures { EndsWith ⟦<Sha as Digester>⟧.digest_of (words_in arguments.now) (S.view source.old) (S.view source.new) (K.view sink.old) (K.view sink.new) result }
+{
+    let (Ok(words), Ok(mut wires)) = (words_in(alloc, arguments), straight_wires(alloc, WIRES))
+    else {
+        return NO_MEMORY;
+    };
+    run_frient(rt, alloc, &words, source, sink, &mut wires).status
 }
 
-fn wires(alloc: Global) -> Result<Vec<Straight>, AllocError>
-    ensures { IfOk result (λ wires. length wires.items ≡ WIRES) }
+// The words behind the program's name.
+fn words_in(alloc: Global, arguments: &[String]) -> Result<Vec<&str>, AllocError>
+    ensures { IfOk result (λ words. map (λ w. w.now) words.items ≡ words_in arguments.now) }
 {
-    let mut wires = Vec::new(alloc);
-    for _ in 0..WIRES {
-        wires.push(Straight)?;
+    let mut words = Vec::new(alloc);
+    for argument in arguments.get(1..).unwrap_or(&[]) {
+        words.push(argument.as_str())?;
     }
-    Ok(wires)
+    Ok(words)
 }
