@@ -24,11 +24,9 @@ const ADMIT_2: &[u8] = b"\x01\0\0\0\x02\x02\0\0";
 
 const REMOVE_2: &[u8] = b"\x02\0\0\0\x02\0\0";
 
-/// The root of the wall of `a_removed_user_is_refused` at its end, from an independent program.
-const ROOT: Dig = [
-    0x14, 0x2d, 0xf5, 0x61, 0xb2, 0x4f, 0x37, 0xb5, 0x74, 0x5f, 0x53, 0x4d, 0xd7, 0xdb, 0x6d, 0x5f,
-    0x9a, 0x90, 0xea, 0x81, 0x2a, 0xcc, 0xab, 0xa1, 0xf9, 0xb1, 0x23, 0x87, 0xf5, 0x01, 0xa7, 0xb9,
-];
+/// The root of the first wall at its end, from an independent program.
+const ROOT: Dig =
+    *b"\x14\x2d\xf5\x61\xb2\x4f\x37\xb5\x74\x5f\x53\x4d\xd7\xdb\x6d\x5f\x9a\x90\xea\x81\x2a\xcc\xab\xa1\xf9\xb1\x23\x87\xf5\x01\xa7\xb9";
 
 fn pair() -> Result<Pair, Fail>
     ensures { IfOk result IsListed }
@@ -161,84 +159,107 @@ impl Scene {
     }
 }
 
-fn placed(position: u64) -> Answer {
-    Answer::Placed { position }
-}
+const NOT_SIGNED: Answer = Answer::Refused(Cause::BadSignature);
 
-fn unlawful(refusal: LawRefusal) -> Answer {
-    Answer::Refused(Cause::Unlawful(refusal))
+/// What is asked of a wall, and what it answers.
+type Row = (Deed, Answer);
+
+/// User 2 is admitted and removed.
+const REMOVED: &[Row] = &[
+    (
+        Deed::Signed(1, (1, 1, 0, 0), ADMIT_2),
+        Answer::Placed { position: 0 },
+    ),
+    (Deed::Look, Answer::Looked { size: 1 }),
+    (
+        Deed::Signed(2, (1, 2, 0, 1), POST_A),
+        Answer::Placed { position: 1 },
+    ),
+    (
+        Deed::Signed(1, (1, 1, 1, 1), REMOVE_2),
+        Answer::Placed { position: 2 },
+    ),
+    (
+        Deed::Signed(2, (1, 2, 1, 1), POST_B),
+        Answer::Refused(Cause::Unlawful(LawRefusal::NotAllowed)),
+    ),
+    (Deed::Look, Answer::Looked { size: 3 }),
+];
+
+/// Signatures are tested before the law: user 2 may not write, and user 3 isn't listed.
+const SIGNATURES: &[Row] = &[
+    (Deed::Signed(1, (1, 2, 0, 0), POST_A), NOT_SIGNED),
+    (Deed::Signed(3, (1, 3, 0, 0), POST_A), NOT_SIGNED),
+    (Deed::Unsigned((1, 1, 0, 0), POST_A), NOT_SIGNED),
+    (
+        Deed::Signed(2, (1, 2, 0, 0), POST_A),
+        Answer::Refused(Cause::Unlawful(LawRefusal::NotAllowed)),
+    ),
+    (
+        Deed::Signed(1, (2, 1, 0, 0), POST_A),
+        Answer::Refused(Cause::Unlawful(LawRefusal::WrongWall)),
+    ),
+    (Deed::Look, Answer::Looked { size: 0 }),
+    (
+        Deed::Signed(1, (1, 1, 0, 0), POST_A),
+        Answer::Placed { position: 0 },
+    ),
+];
+
+/// Operations stand once, also where user 2 begins again at number 0 in another epoch.
+const ONCE: &[Row] = &[
+    (
+        Deed::Signed(1, (1, 1, 0, 0), ADMIT_2),
+        Answer::Placed { position: 0 },
+    ),
+    (
+        Deed::Signed(2, (1, 2, 0, 1), POST_A),
+        Answer::Placed { position: 1 },
+    ),
+    (
+        Deed::Again,
+        Answer::Refused(Cause::Unlawful(LawRefusal::Replayed { next: 1 })),
+    ),
+    (
+        Deed::Signed(1, (1, 1, 1, 1), REMOVE_2),
+        Answer::Placed { position: 2 },
+    ),
+    (
+        Deed::Signed(1, (1, 1, 2, 2), ADMIT_2),
+        Answer::Placed { position: 3 },
+    ),
+    (
+        Deed::Signed(2, (1, 2, 0, 1), POST_A),
+        Answer::Refused(Cause::Unlawful(LawRefusal::StaleEpoch { now: 3 })),
+    ),
+    (
+        Deed::Signed(2, (1, 2, 0, 3), POST_A),
+        Answer::Placed { position: 4 },
+    ),
+    (
+        Deed::Again,
+        Answer::Refused(Cause::Unlawful(LawRefusal::Replayed { next: 1 })),
+    ),
+];
+
+#[test]
+fn walls_answer_as_the_law_has_it(rt: HostRuntime) -> Result<(), Fail> {
+    for rows in [REMOVED, SIGNATURES, ONCE] {
+        let mut scene = opening_scene(rt.alloc())?;
+        for (deed, want) in rows {
+            assert_eq!(rt; scene.answer(rt.alloc(), deed)?, *want);
+        }
+    }
+    Ok(())
 }
 
 #[test]
-fn a_removed_user_is_refused(rt: HostRuntime) -> Result<(), Fail> {
-    let alloc = rt.alloc();
-    let mut scene = opening_scene(alloc)?;
-    let cases = [
-        (Deed::Signed(1, (1, 1, 0, 0), ADMIT_2), placed(0)),
-        (Deed::Look, Answer::Looked { size: 1 }),
-        (Deed::Signed(2, (1, 2, 0, 1), POST_A), placed(1)),
-        (Deed::Signed(1, (1, 1, 1, 1), REMOVE_2), placed(2)),
-        (
-            Deed::Signed(2, (1, 2, 1, 1), POST_B),
-            unlawful(LawRefusal::NotAllowed),
-        ),
-        (Deed::Look, Answer::Looked { size: 3 }),
-    ];
-    for (deed, want) in &cases {
-        assert_eq!(rt; scene.answer(alloc, deed)?, *want);
+fn a_wall_has_another_programs_root(rt: HostRuntime) -> Result<(), Fail> {
+    let mut scene = opening_scene(rt.alloc())?;
+    for (deed, _) in REMOVED {
+        let _answer = scene.answer(rt.alloc(), deed)?;
     }
     assert_eq!(rt; scene.root(), Some(ROOT));
-    Ok(())
-}
-
-#[test]
-fn signatures_are_tested_before_the_law(rt: HostRuntime) -> Result<(), Fail> {
-    let alloc = rt.alloc();
-    let mut scene = opening_scene(alloc)?;
-    let not_signed = Answer::Refused(Cause::BadSignature);
-    let cases = [
-        // user 2 may not write, and user 3 isn't listed
-        (Deed::Signed(1, (1, 2, 0, 0), POST_A), not_signed),
-        (Deed::Signed(3, (1, 3, 0, 0), POST_A), not_signed),
-        (Deed::Unsigned((1, 1, 0, 0), POST_A), not_signed),
-        (
-            Deed::Signed(2, (1, 2, 0, 0), POST_A),
-            unlawful(LawRefusal::NotAllowed),
-        ),
-        (
-            Deed::Signed(1, (2, 1, 0, 0), POST_A),
-            unlawful(LawRefusal::WrongWall),
-        ),
-        (Deed::Look, Answer::Looked { size: 0 }),
-        (Deed::Signed(1, (1, 1, 0, 0), POST_A), placed(0)),
-    ];
-    for (deed, want) in &cases {
-        assert_eq!(rt; scene.answer(alloc, deed)?, *want);
-    }
-    Ok(())
-}
-
-#[test]
-fn operations_stand_once(rt: HostRuntime) -> Result<(), Fail> {
-    let alloc = rt.alloc();
-    let mut scene = opening_scene(alloc)?;
-    let cases = [
-        (Deed::Signed(1, (1, 1, 0, 0), ADMIT_2), placed(0)),
-        (Deed::Signed(2, (1, 2, 0, 1), POST_A), placed(1)),
-        (Deed::Again, unlawful(LawRefusal::Replayed { next: 1 })),
-        (Deed::Signed(1, (1, 1, 1, 1), REMOVE_2), placed(2)),
-        (Deed::Signed(1, (1, 1, 2, 2), ADMIT_2), placed(3)),
-        // the user begins again at number 0, in another epoch
-        (
-            Deed::Signed(2, (1, 2, 0, 1), POST_A),
-            unlawful(LawRefusal::StaleEpoch { now: 3 }),
-        ),
-        (Deed::Signed(2, (1, 2, 0, 3), POST_A), placed(4)),
-        (Deed::Again, unlawful(LawRefusal::Replayed { next: 1 })),
-    ];
-    for (deed, want) in &cases {
-        assert_eq!(rt; scene.answer(alloc, deed)?, *want);
-    }
     Ok(())
 }
 
