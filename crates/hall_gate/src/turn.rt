@@ -16,7 +16,8 @@ impl<T: Turned> Gate<T> {
     ///
     /// The seat is this gate's, and the slip's caller is the seat's. The seat's front is afterwards what it
     /// was, then entries of others, and then the entry of this call with the answer that is returned. It is
-    /// legal for the fixed part of the value behind the gate, and what is shown stands for it.
+    /// the list of all entries that the value had at the end of this turn, it is legal for the fixed part
+    /// of the value behind the gate, and what is shown stands for it.
     ///
     /// The gate takes no memory for it. Where the value wants memory to be shown, that is handed on beside
     /// the answer, and the call is made all the same. It may wait for other callers' turns, and says nothing
@@ -32,6 +33,7 @@ impl<T: Turned> Gate<T> {
         ensures seat { IsSeatOf self.now seat.new }
         ensures same { IsSameSeat seat.old seat.new }
         ensures front { TakesTurn T.caller T.ask T.answer (front_of seat.old) (front_of seat.new) (caller_of seat.old) (T.slip_ask slip) result.0 }
+        ensures had { (x : T) × IsSeen T.valid T.fixed T.entries seat.new x }
         ensures legal { ForSome (fixed_of seat.old) (λ f. T.legal f (front_of seat.new)) }
         ensures seen { IfOk result.1 (λ n. ForSome (fixed_of seat.old) (λ f. T.stands n f (front_of seat.new))) }
     {
@@ -75,6 +77,7 @@ impl<T: Turned> Gate<T> {
         ensures seat { IsSeatOf self.now seat.new }
         ensures same { IsSameSeat seat.old seat.new }
         ensures front { AddsCall T.caller T.ask T.answer (front_of seat.old) (front_of seat.new) (caller_of seat.old) (T.slip_ask slip) result.0 }
+        ensures had { (x : T) × IsSeen T.valid T.fixed T.entries seat.new x }
         ensures legal { ForSome (fixed_of seat.old) (λ f. T.legal f (front_of seat.new)) }
         ensures seen { IfOk result.1 (λ n. ForSome (fixed_of seat.old) (λ f. T.stands n f (front_of seat.new))) }
     {
