@@ -38,15 +38,16 @@ const SAMPLE: usize = 10_000;
 
 const ROUNDS: u32 = 200;
 
-/// How many bytes a text has whose digest takes so many nanoseconds.
-pub fn length_of<R: Clock>(rt: &R, alloc: Global, nanoseconds: u128) -> io::Result<usize> {
+/// How many bytes a text has whose digest takes a processor so many nanoseconds.
+pub fn length_of<R: CpuClock>(rt: &R, alloc: Global, nanoseconds: u128) -> io::Result<usize> {
     let mut sample = Vec::new(alloc);
     sample.resize(SAMPLE, 0u8)?;
-    let begin = Instant::now(rt)?;
+    let begin = rt.thread_cpu_time()?.as_nanos();
     for _ in 0..ROUNDS {
         sample[0] = Sha::digest(&sample)[0];
     }
-    let one = (begin.elapsed(rt)?.as_nanos() / u128::from(ROUNDS)).max(1);
+    let all = rt.thread_cpu_time()?.as_nanos().saturating_sub(begin);
+    let one = (all / u128::from(ROUNDS)).max(1);
     let length = nanoseconds.saturating_mul(SAMPLE as u128) / one;
     Ok(usize::try_from(length).unwrap_or(SAMPLE))
 }
