@@ -10,7 +10,8 @@ play_more texts calls call = fold-append left_by texts calls (call ∷ [])
 
 module _ (d : List ℕ → List ℕ) (owner : ℕ) where
   legal_more : (texts : List (List ℕ)) (calls : List Call) (call : Call) → LegalFrom d owner texts calls
-      → GivesBy d owner (play texts calls) call.caller call.text call.reply → LegalFrom d owner texts (calls ++ call ∷ [])
+      → GivesBy d owner (play texts calls) call.caller call.text call.reply
+      → LegalFrom d owner texts (calls ++ call ∷ [])
   legal_more texts [] call legal gives = (gives, tt)
   legal_more texts (first ∷ calls) call legal gives =
       (legal.0, legal_more (left_by texts first) calls call legal.1 gives)

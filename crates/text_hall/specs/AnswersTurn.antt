@@ -11,8 +11,8 @@ turns_of c calls = turns (λ (call : Call). call.caller) left_by [] c calls
 
 -- The front grows by exactly one turn of its caller's, with this text and this reply; what the turn left is
 -- what all calls of the front leave, and they are all answered as the wall answers them.
-pub record AnswersTurn (d : List ℕ → List ℕ) (owner : ℕ) (before after : List Call) (c : ℕ) (text : List ℕ) (reply : Reply)
-    : Type 0 where
+pub record AnswersTurn (d : List ℕ → List ℕ) (owner : ℕ) (before after : List Call)
+    (c : ℕ) (text : List ℕ) (reply : Reply) : Type 0 where
   pub turn : Turn Call (List (List ℕ))
   pub begins : Begins before after
   pub turned : turns_of c after ≡ turns_of c before ++ turn ∷ []

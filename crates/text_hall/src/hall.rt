@@ -61,9 +61,11 @@ impl<D: Digester> TextHall<D> {
 
     /// Answers a text, hangs it up where it may be, and keeps the call. Takes no memory.
     pub fn write(&mut self, slip: Slip) -> Reply
-        ensures kept { IsKept D.digest_of self.old.owner self.old.root self.old.calls → IsKept D.digest_of self.new.owner self.new.root self.new.calls }
+        ensures kept { IsKept D.digest_of self.old.owner self.old.root self.old.calls
+            → IsKept D.digest_of self.new.owner self.new.root self.new.calls }
         ensures owner { self.new.owner ≡ self.old.owner }
-        ensures call { self.new.calls ≡ self.old.calls ++ record { caller = slip.caller; text = slip.text; reply = result } ∷ [] }
+        ensures call { self.new.calls ≡ self.old.calls
+            ++ record { caller = slip.caller; text = slip.text; reply = result } ∷ [] }
     {
         let Slip { caller, text, room } = slip;
         let reply = self.hang(caller, text.as_slice());
@@ -80,8 +82,10 @@ impl<D: Digester> TextHall<D> {
 
     // Answers a text, and hangs it up where it may be.
     fn hang(&mut self, caller: u32, text: &[u8]) -> Reply
-        ensures gives { IsKept D.digest_of self.old.owner self.old.root self.old.calls → GivesBy D.digest_of self.old.owner (play [] self.old.calls) caller text.now result }
-        ensures root { IsKept D.digest_of self.old.owner self.old.root self.old.calls → self.new.root ≡ root_of D.digest_of (left_behind (play [] self.old.calls) text.now result) }
+        ensures gives { IsKept D.digest_of self.old.owner self.old.root self.old.calls
+            → GivesBy D.digest_of self.old.owner (play [] self.old.calls) caller text.now result }
+        ensures root { IsKept D.digest_of self.old.owner self.old.root self.old.calls
+            → self.new.root ≡ root_of D.digest_of (left_behind (play [] self.old.calls) text.now result) }
         ensures same { (self.new.owner ≡ self.old.owner) × (self.new.calls ≡ self.old.calls) }
     {
         if caller != self.owner && text.is_empty() {

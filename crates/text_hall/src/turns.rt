@@ -23,7 +23,8 @@ pub fn answer<D: Digester, R: Wait>(
     requires caller { slip.caller ≡ caller_of seat.old }
     ensures seat { IsSeatOf gate.now seat.new }
     ensures same { IsSameSeat seat.old seat.new }
-    ensures turn { ForSome (fixed_of seat.old) (λ owner. AnswersTurn D.digest_of owner (front_of seat.old) (front_of seat.new) (caller_of seat.old) slip.text result.0) }
+    ensures turn { ForSome (fixed_of seat.old) (λ owner. AnswersTurn D.digest_of owner (front_of seat.old)
+        (front_of seat.new) (caller_of seat.old) slip.text result.0) }
     ensures shown { IfOk result.1 (λ root. root ≡ root_of D.digest_of (play [] (front_of seat.new))) }
 {
     turns_grow::<Call, Texts>();

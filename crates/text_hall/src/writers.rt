@@ -50,7 +50,9 @@ pub fn opened<D: Digester>(
     requires apart { AllPairs (λ c d. c ≢ d) callers.now }
     requires valid { IsKept D.digest_of hall.owner hall.root hall.calls }
     requires fresh { hall.calls ≡ [] }
-    ensures callers { IfOk result (λ r. (callers_of r.0 ≡ callers.now) × (length r.1.items ≡ length callers.now) × ((i : ℕ) (d : _) → i < length r.1.items → caller_of (slice_index_or r.1.items i d) ≡ slice_index callers.now i)) }
+    ensures callers { IfOk result (λ r. (callers_of r.0 ≡ callers.now) × (length r.1.items ≡ length callers.now)
+        × ((i : ℕ) (d : _) → i < length r.1.items
+        → caller_of (slice_index_or r.1.items i d) ≡ slice_index callers.now i)) }
     ensures seats { IfOk result (λ r. All (IsSeatOf r.0) r.1.items) }
 {
     match Gate::make(alloc, hall, callers) {
@@ -73,12 +75,16 @@ pub fn write_all<D: Digester + Send + Sync, R: Threads + Wait + Sync>(
     seats: &mut [GateSeat<TextHall<D>>],
 )
     requires seats { All (IsSeatOf gate.now) seats.old }
-    requires callers { (length seats.old ≡ length callers.now) × ((i : ℕ) (d : _) → i < length seats.old → caller_of (slice_index_or seats.old i d) ≡ slice_index callers.now i) }
+    requires callers { (length seats.old ≡ length callers.now)
+        × ((i : ℕ) (d : _) → i < length seats.old
+        → caller_of (slice_index_or seats.old i d) ≡ slice_index callers.now i) }
     ensures seats { All (IsSeatOf gate.now) seats.new }
-    ensures callers { ((i : ℕ) (d : _) → i < length seats.new → caller_of (slice_index_or seats.new i d) ≡ slice_index callers.now i) }
+    ensures callers { (i : ℕ) (d : _) → i < length seats.new
+        → caller_of (slice_index_or seats.new i d) ≡ slice_index callers.now i }
 {
     let each = |i: usize, seat: &mut GateSeat<TextHall<D>>|
-        requires { IsSeatOf gate.now seat.old × (i < length callers.now) × (caller_of seat.old ≡ slice_index callers.now i) }
+        requires { IsSeatOf gate.now seat.old × (i < length callers.now)
+            × (caller_of seat.old ≡ slice_index callers.now i) }
         ensures { IsSeatOf gate.entry.now seat.new × (caller_of seat.new ≡ caller_of seat.old) }
     { write(rt, alloc, gate, callers[i], numbers, seat) };
     thread::for_each_mut(rt, seats, THREADS, &each);
