@@ -39,9 +39,13 @@ fn meet_ends<D: Digester>(
     seats: &mut Vec<GateSeat<TextHall<D>>>,
 ) -> Result<(), NoMemory>
     requires seats { All (IsSeatOf gate.now) seats.old.items }
-    requires callers { (1 < length seats.old.items) × (length seats.old.items ≡ length callers.now) × ((i : ℕ) (d : _) → i < length seats.old.items → caller_of (slice_index_or seats.old.items i d) ≡ slice_index callers.now i) }
-    ensures seats { OnOk result (All (IsSeatOf gate.now) seats.new.items × (length seats.new.items ≡ length seats.old.items)) }
-    ensures callers { OnOk result ((i : ℕ) (d : _) → i < length seats.new.items → caller_of (slice_index_or seats.new.items i d) ≡ slice_index callers.now i) }
+    requires callers { (1 < length seats.old.items) × (length seats.old.items ≡ length callers.now)
+        × ((i : ℕ) (d : _) → i < length seats.old.items
+        → caller_of (slice_index_or seats.old.items i d) ≡ slice_index callers.now i) }
+    ensures seats { OnOk result (All (IsSeatOf gate.now) seats.new.items
+        × (length seats.new.items ≡ length seats.old.items)) }
+    ensures callers { OnOk result ((i : ℕ) (d : _) → i < length seats.new.items
+        → caller_of (slice_index_or seats.new.items i d) ≡ slice_index callers.now i) }
 {
     let Some(mut last) = seats.pop() else {
         unreachable!()
