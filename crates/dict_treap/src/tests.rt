@@ -226,6 +226,12 @@ fn text_of<D: Digester>(alloc: Global, dict: &Dict<D>) -> Result<String, NoMemor
     Ok(text)
 }
 
+// The first users' list, in which the owner's next number is 9.
+fn nine<D: Digester>(rt: &impl Abort, alloc: Global, size: u32) -> Result<Dict<D>, NoMemory> {
+    let whole = first_users::<D>(rt, alloc, size)?;
+    numbered(rt, &whole, 1, 9)
+}
+
 // The first users' list after this many of the changes named above.
 fn changed<D: Digester>(
     rt: &impl Abort,
@@ -233,16 +239,21 @@ fn changed<D: Digester>(
     size: u32,
     changes: usize,
 ) -> Result<Dict<D>, NoMemory> {
-    let whole = first_users::<D>(rt, alloc, size)?;
-    if changes == 0 {
-        return Ok(whole);
-    }
-    let next = numbered(rt, &whole, 1, 9)?;
     match changes {
-        1 => Ok(next),
-        2 => with(rt, &next, writer(100)),
-        _ => less(rt, &next, 2),
+        0 => first_users(rt, alloc, size),
+        1 => nine(rt, alloc, size),
+        2 => with(rt, &nine(rt, alloc, size)?, writer(100)),
+        _ => less(rt, &nine(rt, alloc, size)?, 2),
     }
+}
+
+fn changed_text<D: Digester>(
+    rt: &impl Abort,
+    alloc: Global,
+    size: u32,
+    changes: usize,
+) -> Result<String, NoMemory> {
+    text_of(alloc, &changed::<D>(rt, alloc, size, changes)?)
 }
 
 // Whether the list after each of the changes has the digest that begins with this text.
@@ -252,15 +263,14 @@ fn agrees<D: Digester>(
     size: u32,
     wanted: &[&str],
 ) -> Result<bool, NoMemory> {
+    let mut same = true;
     for (changes, want) in wanted.iter().enumerate() {
         if !want.is_empty() {
-            let dict = changed::<D>(rt, alloc, size, changes)?;
-            if !text_of(alloc, &dict)?.as_str().starts_with(*want) {
-                return Ok(false);
-            }
+            let text = changed_text::<D>(rt, alloc, size, changes)?;
+            same = same && text.as_str().starts_with(*want);
         }
     }
-    Ok(true)
+    Ok(same)
 }
 
 #[test]
