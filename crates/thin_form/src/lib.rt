@@ -15,8 +15,6 @@ pub use outcome::{
 pub use thin_script::{Command, Line, read_script};
 
 #[cfg(test)]
-mod example_scripts;
-#[cfg(test)]
 mod message_tests;
 #[cfg(test)]
 mod report_tests;

@@ -1,4 +1,3 @@
-use crate::example_scripts::SCRIPTS;
 use crate::outcome::Verb;
 use crate::thin_script::{Command, Line, read_script};
 use fr_bytes::ReadRefusal;
@@ -71,16 +70,6 @@ fn takes_scripts(rt: HostRuntime) -> Result<(), Fail> {
     for (bytes, count) in cases {
         let lines = read_script(alloc, bytes).ok().ok_or("refused")?;
         assert_eq!(rt; lines.len(), count);
-        assert_eq!(rt; spelled(alloc, lines.as_slice())?.as_bytes(), bytes);
-    }
-    Ok(())
-}
-
-#[test]
-fn reads_whole_scripts(rt: HostRuntime) -> Result<(), Fail> {
-    let alloc = rt.alloc();
-    for bytes in SCRIPTS {
-        let lines = read_script(alloc, bytes).ok().ok_or("refused")?;
         assert_eq!(rt; spelled(alloc, lines.as_slice())?.as_bytes(), bytes);
     }
     Ok(())
