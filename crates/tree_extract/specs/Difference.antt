@@ -2,6 +2,7 @@
 use Rattle.std.specs.Prelude.{ℕ, zero, suc, ◌^◌, List, length, take, drop, Option, None, Some, nat_lt, if◌then◌else◌}
 use Rattle.std.specs.Option.{option_or}
 use Rattle.std.specs.Str.{bytes_eq}
+use Rattle.fr_digest.specs.Digest.{Digest}
 use Rattle.fr_digest.specs.Collision.{Strings}
 use Rattle.tree_model.specs.History.{node_string, depth}
 
@@ -11,7 +12,7 @@ pub data Tree : Type 0 where
   unshown : Tree
   node : List ℕ → Tree → Tree → Tree
 
-module _ (d : List ℕ → List ℕ) where
+module _ (d : Digest) where
   -- The strings of two nodes in the same place, where they differ and their digests agree.
   unfoldable pub clash_at : List ℕ → List ℕ → Option Strings
   clash_at a b =

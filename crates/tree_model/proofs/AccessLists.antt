@@ -5,7 +5,7 @@ use Rattle.std.specs.List.{AllByRecursion}
 use Rattle.std.proofs.lemmas.Bool.{lt-ltb, le-ltb}
 use Rattle.tree_model.specs.declared.entry.Entry.{Entry}
 use Rattle.tree_model.specs.AccessList.{IsRising, smaller, greater, is_above, greatest, top_of, node_text, set_digest_in, set_digest, dict}
-use Rattle.fr_digest.specs.Digest.{IsDigest}
+use Rattle.fr_digest.specs.Digest.{Digest, IsDigest}
 
 -- ---- lists of entries
 
@@ -107,7 +107,7 @@ greater-fewer e es =
 
 -- ---- digests
 
-set_digest-enough : (d : List ℕ → List ℕ) (n m : ℕ) (es : List Entry) → length es ≤ n → length es ≤ m → set_digest_in d n es ≡ set_digest_in d m es
+set_digest-enough : (d : Digest) (n m : ℕ) (es : List Entry) → length es ≤ n → length es ≤ m → set_digest_in d n es ≡ set_digest_in d m es
 unfolding set_digest_in
 set_digest-enough d zero zero es p q = refl
 set_digest-enough d zero (suc m) [] p q = refl
@@ -124,7 +124,7 @@ set_digest-enough d (suc n) (suc m) (e ∷ es) p q =
     ∙ ap (λ (r : Option (List ℕ)). Some (d (node_text (greatest e es) (set_digest_in d m (smaller (greatest e es).user (e ∷ es))) r))) right
 
 -- The digest of a set: its entry of greatest priority over the sets of smaller and of greater users.
-pub set_digest-cons : (d : List ℕ → List ℕ) (e : Entry) (es : List Entry) → set_digest d (e ∷ es) ≡ Some (d (node_text (greatest e es) (set_digest d (smaller (greatest e es).user (e ∷ es))) (set_digest d (greater (greatest e es).user (e ∷ es)))))
+pub set_digest-cons : (d : Digest) (e : Entry) (es : List Entry) → set_digest d (e ∷ es) ≡ Some (d (node_text (greatest e es) (set_digest d (smaller (greatest e es).user (e ∷ es))) (set_digest d (greater (greatest e es).user (e ∷ es)))))
 unfolding set_digest set_digest_in
 set_digest-cons d e es =
     let few = smaller-fewer e es in
@@ -134,7 +134,7 @@ set_digest-cons d e es =
     ap (λ (l : Option (List ℕ)). Some (d (node_text (greatest e es) l (set_digest_in d (length es) (greater (greatest e es).user (e ∷ es)))))) left
     ∙ ap (λ (r : Option (List ℕ)). Some (d (node_text (greatest e es) (set_digest_in d (length (smaller (greatest e es).user (e ∷ es))) (smaller (greatest e es).user (e ∷ es))) r))) right
 
-pub set_digest-top : (d : List ℕ → List ℕ) (es : List Entry) (t : Entry) → top_of es ≡ Some t → set_digest d es ≡ Some (d (node_text t (set_digest d (smaller t.user es)) (set_digest d (greater t.user es))))
+pub set_digest-top : (d : Digest) (es : List Entry) (t : Entry) → top_of es ≡ Some t → set_digest d es ≡ Some (d (node_text t (set_digest d (smaller t.user es)) (set_digest d (greater t.user es))))
 unfolding top_of
 set_digest-top d [] t top = absurd cc
 set_digest-top d (e ∷ es) t top =
@@ -147,7 +147,7 @@ drop-next (suc k) [] = refl
 drop-next (suc k) (e ∷ es) = drop-next k es
 
 -- the same of the list in two parts
-pub set_digest-split : (d : List ℕ → List ℕ) (es : List Entry) (k : ℕ) (t : Entry) → IsRising es → slice_get es k ≡ Some t → top_of es ≡ Some t → set_digest d es ≡ Some (d (node_text t (set_digest d (take k es)) (set_digest d (drop 1 (drop k es)))))
+pub set_digest-split : (d : Digest) (es : List Entry) (k : ℕ) (t : Entry) → IsRising es → slice_get es k ≡ Some t → top_of es ≡ Some t → set_digest d es ≡ Some (d (node_text t (set_digest d (take k es)) (set_digest d (drop 1 (drop k es)))))
 set_digest-split d es k t h at top =
     set_digest-top d es t top
     ∙ ap (λ (xs : List Entry). Some (d (node_text t (set_digest d xs) (set_digest d (greater t.user es))))) (smaller-take es k t h at)
@@ -188,20 +188,20 @@ greatest-done whole best [] (suc i) le so_far = so_far
 greatest-done whole best (e ∷ es) zero le so_far = absurd (omega arith)
 greatest-done whole best (e ∷ es) (suc i) le so_far = greatest-done whole best es i (omega arith) so_far
 
-pub set_digest-none : (d : List ℕ → List ℕ) (es : List Entry) → length es ≡ 0 → set_digest d es ≡ None
+pub set_digest-none : (d : Digest) (es : List Entry) → length es ≡ 0 → set_digest d es ≡ None
 unfolding set_digest set_digest_in
 set_digest-none d [] e = refl
 set_digest-none d (x ∷ es) e = absurd (omega arith)
 
-pub set_digest-some : (d : List ℕ → List ℕ) (es : List Entry) → 0 < length es → set_digest d es ≡ None → ⊥
+pub set_digest-some : (d : Digest) (es : List Entry) → 0 < length es → set_digest d es ≡ None → ⊥
 set_digest-some d [] some none = omega arith
 set_digest-some d (e ∷ es) some none = let is = sym (set_digest-cons d e es) ∙ none in cc
 
-pub set_digest-parts : (d : List ℕ → List ℕ) (es : List Entry) (k : ℕ) (t : Entry) (left right : List Entry) (l r : Option (List ℕ)) (x : List ℕ) → IsRising es → slice_get es k ≡ Some t → top_of es ≡ Some t
+pub set_digest-parts : (d : Digest) (es : List Entry) (k : ℕ) (t : Entry) (left right : List Entry) (l r : Option (List ℕ)) (x : List ℕ) → IsRising es → slice_get es k ≡ Some t → top_of es ≡ Some t
     → left ≡ take k es → right ≡ drop 1 (drop k es) → l ≡ set_digest d left → r ≡ set_digest d right → x ≡ d (node_text t l r) → Some x ≡ set_digest d es
 set_digest-parts d es k t left right l r x h at top left-is right-is l-is r-is x-is = rw (x-is, l-is, r-is, left-is, right-is) (sym (set_digest-split d es k t h at top))
 
-pub length-dict : (d : List ℕ → List ℕ) → ((m : List ℕ) → IsDigest (d m)) → (es : List Entry) → 0 < length es → IsDigest (dict d es)
+pub length-dict : (d : Digest) → ((m : List ℕ) → IsDigest (d m)) → (es : List Entry) → 0 < length es → IsDigest (dict d es)
 unfolding dict
 length-dict d sized [] some = absurd (omega arith)
 length-dict d sized (e ∷ es) some = let node = set_digest-cons d e es in rw node (sized _)
@@ -211,6 +211,6 @@ some_is None some = absurd (some refl)
 some_is (Some y) some = refl
 
 -- the digest of a set that isn't empty is that of the access list
-pub set_digest-dict : (d : List ℕ → List ℕ) (es : List Entry) → 0 < length es → set_digest d es ≡ Some (dict d es)
+pub set_digest-dict : (d : Digest) (es : List Entry) → 0 < length es → set_digest d es ≡ Some (dict d es)
 unfolding dict
 set_digest-dict d es some = some_is (set_digest d es) (set_digest-some d es some)

@@ -5,49 +5,49 @@ use Rattle.std.proofs.lemmas.Bool.{lt-ltb, le-ltb, cases_lt}
 use Rattle.std.proofs.lemmas.List.{length-take-le, take-take, take_all, take-append-le}
 use Rattle.std.proofs.Math.Nat.{pow-suc}
 use Rattle.std.proofs.Math.Pow.{pow_mono}
-use Rattle.fr_digest.specs.Digest.{IsDigest}
+use Rattle.fr_digest.specs.Digest.{Digest, IsDigest}
 use Rattle.tree_model.specs.History.{leaf_string, single_string, pair_string, node_string, part, least_exponent, depth, root_of_all, root}
 
 -- ---- the equations of a node
 
-pub node_string-leaf : (d : List ℕ → List ℕ) (text : List ℕ) → node_string d 0 (text ∷ []) ≡ leaf_string text
+pub node_string-leaf : (d : Digest) (text : List ℕ) → node_string d 0 (text ∷ []) ≡ leaf_string text
 unfolding node_string
 node_string-leaf d text = refl
 
-pub node_string-single : (d : List ℕ → List ℕ) (j : ℕ) (texts : List (List ℕ)) → length texts ≤ 2 ^ j → node_string d (suc j) texts ≡ single_string (part d j texts)
+pub node_string-single : (d : Digest) (j : ℕ) (texts : List (List ℕ)) → length texts ≤ 2 ^ j → node_string d (suc j) texts ≡ single_string (part d j texts)
 unfolding node_string part
 node_string-single d j texts fits = rw (le-ltb (2 ^ j) (length texts) fits) refl
 
-pub node_string-pair : (d : List ℕ → List ℕ) (j : ℕ) (texts : List (List ℕ)) → 2 ^ j < length texts → node_string d (suc j) texts ≡ pair_string (part d j (take (2 ^ j) texts)) (part d j (drop (2 ^ j) texts))
+pub node_string-pair : (d : Digest) (j : ℕ) (texts : List (List ℕ)) → 2 ^ j < length texts → node_string d (suc j) texts ≡ pair_string (part d j (take (2 ^ j) texts)) (part d j (drop (2 ^ j) texts))
 unfolding node_string part
 node_string-pair d j texts more = rw (lt-ltb (2 ^ j) (length texts) more) refl
 
-pub part-string : (d : List ℕ → List ℕ) (j : ℕ) (texts : List (List ℕ)) → part d j texts ≡ d (node_string d j texts)
+pub part-string : (d : Digest) (j : ℕ) (texts : List (List ℕ)) → part d j texts ≡ d (node_string d j texts)
 unfolding part
 part-string d j texts = refl
 
-pub part-leaf : (d : List ℕ → List ℕ) (text : List ℕ) → part d 0 (text ∷ []) ≡ d (leaf_string text)
+pub part-leaf : (d : Digest) (text : List ℕ) → part d 0 (text ∷ []) ≡ d (leaf_string text)
 part-leaf d text = rw (part-string, node_string-leaf) refl
 
-pub part-single : (d : List ℕ → List ℕ) (j : ℕ) (texts : List (List ℕ)) → length texts ≤ 2 ^ j → part d (suc j) texts ≡ d (single_string (part d j texts))
+pub part-single : (d : Digest) (j : ℕ) (texts : List (List ℕ)) → length texts ≤ 2 ^ j → part d (suc j) texts ≡ d (single_string (part d j texts))
 part-single d j texts fits = rw (part-string d (suc j) texts, node_string-single d j texts fits) refl
 
-pub part-pair : (d : List ℕ → List ℕ) (j : ℕ) (texts : List (List ℕ)) → 2 ^ j < length texts → part d (suc j) texts ≡ d (pair_string (part d j (take (2 ^ j) texts)) (part d j (drop (2 ^ j) texts)))
+pub part-pair : (d : Digest) (j : ℕ) (texts : List (List ℕ)) → 2 ^ j < length texts → part d (suc j) texts ≡ d (pair_string (part d j (take (2 ^ j) texts)) (part d j (drop (2 ^ j) texts)))
 part-pair d j texts more = rw (part-string d (suc j) texts, node_string-pair d j texts more) refl
 
 -- the same equations at a height written as in the code
 
-pub node_string-at_leaf : (d : List ℕ → List ℕ) (texts : List (List ℕ)) (text : List ℕ) → 0 < length texts → text ≡ get_or texts 0 text → node_string d 0 texts ≡ leaf_string text
+pub node_string-at_leaf : (d : Digest) (texts : List (List ℕ)) (text : List ℕ) → 0 < length texts → text ≡ get_or texts 0 text → node_string d 0 texts ≡ leaf_string text
 unfolding node_string
 node_string-at_leaf d [] text some here = absurd (omega arith)
 node_string-at_leaf d (first ∷ texts) text some here = ap leaf_string (sym here)
 
-pub node_string-at_single : (d : List ℕ → List ℕ) (level : ℕ) (texts : List (List ℕ)) → 0 < level → length texts ≤ 2 ^ (level - 1) → node_string d level texts ≡ single_string (part d (level - 1) texts)
+pub node_string-at_single : (d : Digest) (level : ℕ) (texts : List (List ℕ)) → 0 < level → length texts ≤ 2 ^ (level - 1) → node_string d level texts ≡ single_string (part d (level - 1) texts)
 node_string-at_single d zero texts above fits = absurd (omega arith)
 node_string-at_single d (suc j) texts above fits =
     let below : suc j - 1 ≡ j = omega arith in rw below (node_string-single d j texts (rw below at fits))
 
-pub node_string-at_pair : (d : List ℕ → List ℕ) (level : ℕ) (texts : List (List ℕ)) → 0 < level → 2 ^ (level - 1) < length texts → node_string d level texts ≡ pair_string (part d (level - 1) (take (2 ^ (level - 1)) texts)) (part d (level - 1) (drop (2 ^ (level - 1)) texts))
+pub node_string-at_pair : (d : Digest) (level : ℕ) (texts : List (List ℕ)) → 0 < level → 2 ^ (level - 1) < length texts → node_string d level texts ≡ pair_string (part d (level - 1) (take (2 ^ (level - 1)) texts)) (part d (level - 1) (drop (2 ^ (level - 1)) texts))
 node_string-at_pair d zero texts above more = absurd (omega arith)
 node_string-at_pair d (suc j) texts above more =
     let below : suc j - 1 ≡ j = omega arith in rw below (node_string-pair d j texts (rw below at more))
@@ -61,7 +61,7 @@ halves-fit (suc j) n above fits =
     rw below (omega arith)
 
 -- each node's digest has a digest's length
-pub length-part : (d : List ℕ → List ℕ) → ((m : List ℕ) → IsDigest (d m)) → (j : ℕ) (texts : List (List ℕ)) → IsDigest (part d j texts)
+pub length-part : (d : Digest) → ((m : List ℕ) → IsDigest (d m)) → (j : ℕ) (texts : List (List ℕ)) → IsDigest (part d j texts)
 unfolding part
 length-part d sized j texts = sized (node_string d j texts)
 
@@ -150,44 +150,44 @@ depth-next m e low high =
 
 -- ---- the root of a version
 
-pub root_of_all-part : (d : List ℕ → List ℕ) (texts : List (List ℕ)) → root_of_all d texts ≡ part d (depth (length texts)) texts
+pub root_of_all-part : (d : Digest) (texts : List (List ℕ)) → root_of_all d texts ≡ part d (depth (length texts)) texts
 unfolding root_of_all
 root_of_all-part d texts = refl
 
 -- the root of a version is the root of the list of its texts
-pub root-all : (d : List ℕ → List ℕ) (texts : List (List ℕ)) (v : ℕ) → root d texts v ≡ root_of_all d (take v texts)
+pub root-all : (d : Digest) (texts : List (List ℕ)) (v : ℕ) → root d texts v ≡ root_of_all d (take v texts)
 unfolding root
 root-all d texts v = refl
 
 -- lists that agree in their first texts agree in the root over them
-pub root-prefix : (d : List ℕ → List ℕ) (left right : List (List ℕ)) (v : ℕ) → take v left ≡ take v right → root d left v ≡ root d right v
+pub root-prefix : (d : Digest) (left right : List (List ℕ)) (v : ℕ) → take v left ≡ take v right → root d left v ≡ root d right v
 unfolding root
 root-prefix d left right v same = ap (root_of_all d) same
 
-pub root-part : (d : List ℕ → List ℕ) (texts : List (List ℕ)) (v : ℕ) → v ≤ length texts → root d texts v ≡ part d (depth v) (take v texts)
+pub root-part : (d : Digest) (texts : List (List ℕ)) (v : ℕ) → v ≤ length texts → root d texts v ≡ part d (depth v) (take v texts)
 unfolding root root_of_all
 root-part d texts v within = rw (length-take-le v texts within) refl
 
-pub root-one : (d : List ℕ → List ℕ) (text : List ℕ) (texts : List (List ℕ)) → root d (text ∷ texts) 1 ≡ d (leaf_string text)
+pub root-one : (d : Digest) (text : List ℕ) (texts : List (List ℕ)) → root d (text ∷ texts) 1 ≡ d (leaf_string text)
 root-one d text texts = rw (root-part d (text ∷ texts) 1 (omega arith), depth-one) (part-leaf d text)
 
 -- a version's root stays when texts are added
-pub root-append : (d : List ℕ → List ℕ) (texts more : List (List ℕ)) (v : ℕ) → v ≤ length texts → root d (texts ++ more) v ≡ root d texts v
+pub root-append : (d : Digest) (texts more : List (List ℕ)) (v : ℕ) → v ≤ length texts → root d (texts ++ more) v ≡ root d texts v
 root-append d texts more v within = root-prefix d (texts ++ more) texts v (take-append-le v texts more within)
 
 -- the root of a version, read from any longer version
-pub root-take : (d : List ℕ → List ℕ) (texts : List (List ℕ)) (v size : ℕ) → v ≤ size → root d (take size texts) v ≡ root d texts v
+pub root-take : (d : Digest) (texts : List (List ℕ)) (v size : ℕ) → v ≤ size → root d (take size texts) v ≡ root d texts v
 root-take d texts v size within = root-prefix d (take size texts) texts v (take-take v size texts within)
 
 -- the root of the version of all texts
-pub root-length : (d : List ℕ → List ℕ) (texts : List (List ℕ)) → root d texts (length texts) ≡ root_of_all d texts
+pub root-length : (d : Digest) (texts : List (List ℕ)) → root d texts (length texts) ≡ root_of_all d texts
 unfolding root
 root-length d texts = ap (root_of_all d) (take_all (length texts) texts (omega arith))
 
 -- so the root of a version is the root of the last version of the list of its texts
-pub root-of_take : (d : List ℕ → List ℕ) (texts : List (List ℕ)) (v : ℕ) → root d (take v texts) (length (take v texts)) ≡ root d texts v
+pub root-of_take : (d : Digest) (texts : List (List ℕ)) (v : ℕ) → root d (take v texts) (length (take v texts)) ≡ root d texts v
 root-of_take d texts v = root-length d (take v texts) ∙ sym (root-all d texts v)
 
-pub length-root : (d : List ℕ → List ℕ) → ((m : List ℕ) → IsDigest (d m)) → (texts : List (List ℕ)) (v : ℕ) → IsDigest (root d texts v)
+pub length-root : (d : Digest) → ((m : List ℕ) → IsDigest (d m)) → (texts : List (List ℕ)) (v : ℕ) → IsDigest (root d texts v)
 unfolding root root_of_all
 length-root d sized texts v = length-part d sized (depth (length (take v texts))) (take v texts)

@@ -3,6 +3,7 @@ use Rattle.std.proofs.Common.{◌≡◌, ◌≢◌, ℕ, zero, suc, ◌<◌, Boo
 use Rattle.std.specs.Prelude.{◌↔◌, filter}
 use Rattle.std.specs.List.{AllByRecursion, Contains}
 use Rattle.std.proofs.lemmas.Bool.{cases_eq, eq-eqb, ne_eqb}
+use Rattle.fr_digest.specs.Digest.{Digest}
 use Rattle.tree_model.specs.declared.entry.Entry.{Entry}
 use Rattle.tree_model.specs.AccessList.{IsRising, entry_of, set_digest}
 use Rattle.tree_model.proofs.AccessLists.{Among}
@@ -134,5 +135,5 @@ pub rising-looked_up : (xs ys : List Entry) → IsRising xs → IsRising ys → 
 rising-looked_up xs ys hx hy same = among-same xs ys hx hy (among-looked_up xs ys hx same) (among-looked_up ys xs hy (λ u. sym (same u)))
 
 -- the digest of a list depends on the set alone
-pub set_digest-same : (d : List ℕ → List ℕ) (xs ys : List Entry) → IsRising xs → IsRising ys → ((e : Entry) → Contains xs e → Contains ys e) → ((e : Entry) → Contains ys e → Contains xs e) → set_digest d xs ≡ set_digest d ys
+pub set_digest-same : (d : Digest) (xs ys : List Entry) → IsRising xs → IsRising ys → ((e : Entry) → Contains xs e → Contains ys e) → ((e : Entry) → Contains ys e → Contains xs e) → set_digest d xs ≡ set_digest d ys
 set_digest-same d xs ys hx hy right left = ap (set_digest d) (rising-same xs ys hx hy right left)

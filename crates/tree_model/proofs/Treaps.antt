@@ -2,6 +2,7 @@
 use Rattle.std.proofs.Common.{◌≡◌, ◌≢◌, ℕ, zero, suc, ◌<◌, ◌≤◌, Bool, true, false, cond, ltb, List, [], ◌∷◌, ◌++◌, length, take, drop, Some, refl, ap, sym, subst, ◌∙◌, inl, inr, arith}
 use Rattle.std.specs.Prelude.{slice_get, filter}
 use Rattle.std.proofs.lemmas.Bool.{ltb-true, cases_Bool}
+use Rattle.fr_digest.specs.Digest.{Digest}
 use Rattle.tree_model.specs.declared.entry.Entry.{Entry}
 use Rattle.tree_model.specs.AccessList.{IsRising, smaller, greater, is_above, greatest, top_of, set_digest, dict}
 use Rattle.tree_model.specs.Treap.{Treap, empty, node, in_order, IsAboveEach, IsHeap, IsTreap, treap_digest}
@@ -79,7 +80,7 @@ treap-same (node e l r) (node f m q) ht hs same =
 
 -- ---- the digest of a set is that of its treap
 
-pub treap_digest-set : (d : List ℕ → List ℕ) (t : Treap) → IsTreap t → treap_digest d t ≡ set_digest d (in_order t)
+pub treap_digest-set : (d : Digest) (t : Treap) → IsTreap t → treap_digest d t ≡ set_digest d (in_order t)
 unfolding treap_digest
 treap_digest-set d empty h = sym (set_digest-none d [] refl)
 treap_digest-set d (node e l r) h =
@@ -126,5 +127,5 @@ pub treap-of_set : (es : List Entry) → IsRising es → HasTreap es
 treap-of_set es h = treap-within (length es) es (omega arith) h
 
 -- the digest of an access list is that of its treap
-pub treap_digest-dict : (d : List ℕ → List ℕ) (t : Treap) → IsTreap t → 0 < length (in_order t) → treap_digest d t ≡ Some (dict d (in_order t))
+pub treap_digest-dict : (d : Digest) (t : Treap) → IsTreap t → 0 < length (in_order t) → treap_digest d t ≡ Some (dict d (in_order t))
 treap_digest-dict d t h some = treap_digest-set d t h ∙ set_digest-dict d (in_order t) some

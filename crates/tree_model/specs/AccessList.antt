@@ -7,6 +7,7 @@ use Rattle.std.specs.Int.{w32, to_be_bytes}
 use Rattle.std.specs.Ordering.{ordering_then, nat_cmp, is_gt}
 use Rattle.std.specs.declared.cmp.Ordering.{Ordering}
 use Rattle.std.specs.Cmp.Lexicographic.{slice_cmp}
+use Rattle.fr_digest.specs.Digest.{Digest}
 use Rattle.sha2.specs.Sha256.{sha256}
 use Rattle.tree_model.specs.declared.entry.Entry.{Entry}
 
@@ -82,7 +83,7 @@ pub record IsInRange (e : Entry) : Type 0 where
   pub role : e.role < 2 ^ 8
   pub next : e.next < 2 ^ 32
 
-module _ (d : List ℕ → List ℕ) where
+module _ (d : Digest) where
   -- The digest of a set of at most n entries, where it isn't empty: the entry of greatest priority is
   -- taken out, and the smaller and the greater users are digested in the same way.
   unfoldable pub set_digest_in : ℕ → List Entry → Option (List ℕ)

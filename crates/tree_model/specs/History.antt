@@ -1,6 +1,7 @@
 -- The history tree of a list of texts (Crosby and Wallach, "Efficient Data Structures for
 -- Tamper-Evident Logging", USENIX Security 2009), by halving the list. d is the digest of strings.
 use Rattle.std.specs.Prelude.{ℕ, zero, suc, ◌^◌, List, [], ◌∷◌, ◌++◌, length, take, drop, slice_index_or, nat_lt, if◌then◌else◌}
+use Rattle.fr_digest.specs.Digest.{Digest}
 
 -- ---- the strings that are digested
 
@@ -29,7 +30,7 @@ depth n = least_exponent n 0 n
 
 -- ---- the tree over a list
 
-module _ (d : List ℕ → List ℕ) where
+module _ (d : Digest) where
   -- The string of the node of height j over the texts, of which there are at most 2^j.
   unfoldable pub node_string : ℕ → List (List ℕ) → List ℕ
   node_string zero texts = leaf_string (slice_index_or texts 0 [])

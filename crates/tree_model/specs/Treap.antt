@@ -2,6 +2,7 @@
 -- "Randomized Search Trees"). d is the digest of strings.
 use Rattle.std.specs.Prelude.{◌≡◌, ℕ, true, List, [], ◌∷◌, ◌++◌, Option, Some, None}
 use Rattle.std.specs.List.{AllByRecursion}
+use Rattle.fr_digest.specs.Digest.{Digest}
 use Rattle.tree_model.specs.declared.entry.Entry.{Entry}
 use Rattle.tree_model.specs.AccessList.{IsRising, is_above, node_text}
 
@@ -28,6 +29,6 @@ abbrev pub IsTreap : Treap → Type 0
 IsTreap t = IsRising (in_order t) × IsHeap t
 
 -- The digest of a treap, where it isn't empty: that of its root's string over the digests of its children.
-unfoldable pub treap_digest : (List ℕ → List ℕ) → Treap → Option (List ℕ)
+unfoldable pub treap_digest : Digest → Treap → Option (List ℕ)
 treap_digest d empty = None
 treap_digest d (node e l r) = Some (d (node_text e (treap_digest d l) (treap_digest d r)))

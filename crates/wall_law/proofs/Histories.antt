@@ -3,6 +3,7 @@ use Rattle.std.proofs.Common.{◌≡◌, ℕ, zero, suc, ◌+◌, ◌<◌, ◌�
 use Rattle.std.specs.Prelude.{fold, slice_get, nat_eq, option_and_then}
 use Rattle.std.proofs.lemmas.Bool.{ltb-false, eqb-true}
 use Rattle.std.proofs.lemmas.List.{take-take}
+use Rattle.fr_digest.specs.Digest.{Digest}
 use Rattle.op_types.specs.declared.op.Op.{Op}
 use Rattle.op_types.specs.declared.op.Leaf.{Leaf}
 use Rattle.op_types.specs.Kinds.{is_change, changed_user}
@@ -103,7 +104,7 @@ unfolding law
 law-stands s wall k op none = law_of-stands _ _ s.epoch wall k op none
 
 -- in a lawful history each embedded view covers earlier positions alone
-pub lawful-view : (d : List ℕ → List ℕ) (owner wall : ℕ) (leaves : List Leaf) (k : ℕ) (leaf : Leaf) → Lawful d owner wall leaves → slice_get leaves k ≡ Some leaf → leaf.op.view.size ≤ k
+pub lawful-view : (d : Digest) (owner wall : ℕ) (leaves : List Leaf) (k : ℕ) (leaf : Leaf) → Lawful d owner wall leaves → slice_get leaves k ≡ Some leaf → leaf.op.view.size ≤ k
 lawful-view d owner wall leaves k leaf lawful at = (law-stands _ wall k leaf.op (lawful k leaf at).lawful).early_view
 
 -- ---- prefixes
@@ -115,7 +116,7 @@ slice_get-take (suc n) zero (l ∷ leaves) leaf at = (omega arith, at)
 slice_get-take (suc n) (suc k) (l ∷ leaves) leaf at = let it = slice_get-take n k leaves leaf at in (let less = it.0 in omega arith, it.1)
 
 -- each prefix of a lawful history is lawful
-pub lawful-take : (d : List ℕ → List ℕ) (owner wall : ℕ) (leaves : List Leaf) (n : ℕ) → Lawful d owner wall leaves → Lawful d owner wall (take n leaves)
+pub lawful-take : (d : Digest) (owner wall : ℕ) (leaves : List Leaf) (n : ℕ) → Lawful d owner wall leaves → Lawful d owner wall (take n leaves)
 lawful-take d owner wall leaves n lawful k leaf at =
     let place = slice_get-take n k leaves leaf at in
     let less = place.0 in
@@ -128,7 +129,7 @@ lawful-take d owner wall leaves n lawful k leaf at =
 
 -- What a check finds of one position, over the state's own entries and the digest of the list that the
 -- operation leaves, is that the position is lawful.
-pub position-step : (d : List ℕ → List ℕ) (s : State) (root_at : ℕ → Option (List ℕ)) (list_after : List ℕ) (wall k : ℕ) (leaf : Leaf)
+pub position-step : (d : Digest) (s : State) (root_at : ℕ → Option (List ℕ)) (list_after : List ℕ) (wall k : ℕ) (leaf : Leaf)
     → list_after ≡ dict d (after s leaf.op).entries
     → PositionPasses (told_of d s) (entry_of s.entries leaf.op.author) (option_and_then (λ (user : ℕ). entry_of s.entries user) (changed_user leaf.op.kind)) list_after root_at wall k leaf
     → (law s wall k leaf.op ≡ None) × (told leaf ≡ told_of d (after s leaf.op))

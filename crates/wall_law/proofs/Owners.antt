@@ -14,6 +14,7 @@ use Rattle.op_types.specs.Spelling.{IsKind, IsLeaf}
 use Rattle.std.specs.List.{AllByRecursion}
 use Rattle.tree_model.specs.declared.entry.Entry.{Entry}
 use Rattle.std.specs.Option.{option_map}
+use Rattle.fr_digest.specs.Digest.{Digest}
 use Rattle.tree_model.specs.AccessList.{IsListed, FitsChange, ListChange, stays, adds, drops, entry_of, with_next, with_entry, without, change_by, changed_set}
 use Rattle.tree_model.proofs.LookUps.{with_next-own, with_next-other, with_entry-own, with_entry-other, without-own, without-other}
 use Rattle.wall_law.specs.declared.state.State.{State}
@@ -99,7 +100,7 @@ place-there [] k within = absurd (omega arith)
 place-there (l ∷ leaves) zero within = (l, refl)
 place-there (l ∷ leaves) (suc k) within = place-there leaves k (omega arith)
 
-take-owner : (d : List ℕ → List ℕ) (owner wall : ℕ) (leaves : List Leaf) → Lawful d owner wall leaves → (k : ℕ) → k ≤ length leaves → HasOwner owner (state_of owner (take k leaves)).entries
+take-owner : (d : Digest) (owner wall : ℕ) (leaves : List Leaf) → Lawful d owner wall leaves → (k : ℕ) → k ≤ length leaves → HasOwner owner (state_of owner (take k leaves)).entries
 take-owner d owner wall leaves lawful zero within = opening-owner owner
 take-owner d owner wall leaves lawful (suc k) within =
     let place = place-there leaves k (omega arith) in
@@ -110,7 +111,7 @@ take-owner d owner wall leaves lawful (suc k) within =
     subst (λ (n : ℕ). HasOwner owner (state_of owner (take n leaves)).entries) number (subst (λ (s : State). HasOwner owner s.entries) (sym next) stays)
 
 -- after every lawful history the owner is in the list
-pub state_of-owner : (d : List ℕ → List ℕ) (owner wall : ℕ) (leaves : List Leaf) → Lawful d owner wall leaves → HasOwner owner (state_of owner leaves).entries
+pub state_of-owner : (d : Digest) (owner wall : ℕ) (leaves : List Leaf) → Lawful d owner wall leaves → HasOwner owner (state_of owner leaves).entries
 state_of-owner d owner wall leaves lawful =
     subst (λ (ls : List Leaf). HasOwner owner (state_of owner ls).entries) (take_all (length leaves) leaves (omega arith)) (take-owner d owner wall leaves lawful (length leaves) (omega arith))
 
@@ -119,7 +120,7 @@ owner-some owner [] has = let there = has.1 in absurd cc
 owner-some owner (e ∷ es) has = omega arith
 
 -- so the list is never empty
-pub state_of-some : (d : List ℕ → List ℕ) (owner wall : ℕ) (leaves : List Leaf) → Lawful d owner wall leaves → 0 < length (state_of owner leaves).entries
+pub state_of-some : (d : Digest) (owner wall : ℕ) (leaves : List Leaf) → Lawful d owner wall leaves → 0 < length (state_of owner leaves).entries
 state_of-some d owner wall leaves lawful = owner-some owner (state_of owner leaves).entries (state_of-owner d owner wall leaves lawful)
 
 -- ---- a list that is left isn't empty

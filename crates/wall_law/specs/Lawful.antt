@@ -1,5 +1,6 @@
 -- Lawful histories.
 use Rattle.std.specs.Prelude.{◌≡◌, ℕ, ◌+◌, ◌<◌, List, take, Option, Some, None, slice_get}
+use Rattle.fr_digest.specs.Digest.{Digest}
 use Rattle.op_types.specs.declared.op.Leaf.{Leaf}
 use Rattle.tree_model.specs.declared.entry.Entry.{Entry}
 use Rattle.tree_model.specs.AccessList.{dict}
@@ -15,7 +16,7 @@ pub record Told : Type 0 where
 abbrev pub told : Leaf → Told
 told leaf = record { list = leaf.after; epoch = leaf.epoch }
 
-abbrev pub told_of : (List ℕ → List ℕ) → State → Told
+abbrev pub told_of : Digest → State → Told
 told_of d s = record { list = dict d s.entries; epoch = s.epoch }
 
 -- One position passes, over what was told before it, the entries that were found, the digest of the list
@@ -27,14 +28,14 @@ pub record PositionPasses (before : Told) (author changed : Option Entry) (list_
 
 -- A position of a history is lawful: the law has no refusal in the state of the operations before it,
 -- and its leaf tells the state after it.
-pub record IsLawfulAt (d : List ℕ → List ℕ) (owner wall : ℕ) (leaves : List Leaf) (k : ℕ) (leaf : Leaf) : Type 0 where
+pub record IsLawfulAt (d : Digest) (owner wall : ℕ) (leaves : List Leaf) (k : ℕ) (leaf : Leaf) : Type 0 where
   pub lawful : law (state_of owner (take k leaves)) wall k leaf.op ≡ None
   pub tells : told leaf ≡ told_of d (state_of owner (take (k + 1) leaves))
 
-abbrev pub Lawful : (List ℕ → List ℕ) → ℕ → ℕ → List Leaf → Type 0
+abbrev pub Lawful : Digest → ℕ → ℕ → List Leaf → Type 0
 Lawful d owner wall leaves = (k : ℕ) (leaf : Leaf) → slice_get leaves k ≡ Some leaf → IsLawfulAt d owner wall leaves k leaf
 
 -- A leaf comes next in a state, at position k: the law has no refusal there, and the leaf tells the state
 -- after it.
-abbrev pub ComesNext : (List ℕ → List ℕ) → State → ℕ → ℕ → Leaf → Type 0
+abbrev pub ComesNext : Digest → State → ℕ → ℕ → Leaf → Type 0
 ComesNext d s wall k leaf = (law s wall k leaf.op ≡ None) × (told leaf ≡ told_of d (after s leaf.op))

@@ -5,6 +5,7 @@ ghost use Rattle.op_types.specs.Kinds.{changed_user};
 ghost use Rattle.op_types.specs.Spelling.{IsLeaf};
 ghost use Rattle.std.specs.List.{AllByRecursion};
 ghost use Rattle.std.specs.Prelude.{◌≡◌, ◌+◌, ◌<◌, ◌≤◌, ◌↔◌, ◌++◌, ◌∷◌, [], ℕ, List, None, Option, Some, length, option_and_then, slice_get, take};
+ghost use Rattle.fr_digest.specs.Digest.{Digest};
 ghost use Rattle.tree_model.specs.AccessList.{FitsChange, IsRising, dict, entry_of};
 ghost use Rattle.wall_law.specs.declared.state.State.{State};
 ghost use Rattle.wall_law.specs.Law.{law};
@@ -22,14 +23,14 @@ pub fn states()
 /// Each prefix of a lawful history is lawful, and each of its embedded views covers earlier operations
 /// alone. `d` is any digest.
 pub fn histories()
-    ensures prefix { (d : List ℕ → List ℕ) (owner wall : ℕ) (leaves : List Leaf) (n : ℕ) → Lawful d owner wall leaves → Lawful d owner wall (take n leaves) }
-    ensures view { (d : List ℕ → List ℕ) (owner wall : ℕ) (leaves : List Leaf) (k : ℕ) (leaf : Leaf) → Lawful d owner wall leaves → slice_get leaves k ≡ Some leaf → leaf.op.view.size ≤ k }
+    ensures prefix { (d : Digest) (owner wall : ℕ) (leaves : List Leaf) (n : ℕ) → Lawful d owner wall leaves → Lawful d owner wall (take n leaves) }
+    ensures view { (d : Digest) (owner wall : ℕ) (leaves : List Leaf) (k : ℕ) (leaf : Leaf) → Lawful d owner wall leaves → slice_get leaves k ≡ Some leaf → leaf.op.view.size ≤ k }
 {}
 
 /// What a check finds of one position, over the state's own entries and the digest of the list that the
 /// operation leaves, is that the position is lawful.
 pub fn positions()
-    ensures { (d : List ℕ → List ℕ) (s : State) (root_at : ℕ → Option (List ℕ)) (list_after : List ℕ) (wall k : ℕ) (leaf : Leaf) → list_after ≡ dict d (after s leaf.op).entries → PositionPasses (told_of d s) (entry_of s.entries leaf.op.author) (option_and_then (λ (user : ℕ). entry_of s.entries user) (changed_user leaf.op.kind)) list_after root_at wall k leaf → (law s wall k leaf.op ≡ None) × (told leaf ≡ told_of d (after s leaf.op)) }
+    ensures { (d : Digest) (s : State) (root_at : ℕ → Option (List ℕ)) (list_after : List ℕ) (wall k : ℕ) (leaf : Leaf) → list_after ≡ dict d (after s leaf.op).entries → PositionPasses (told_of d s) (entry_of s.entries leaf.op.author) (option_and_then (λ (user : ℕ). entry_of s.entries user) (changed_user leaf.op.kind)) list_after root_at wall k leaf → (law s wall k leaf.op ≡ None) × (told leaf ≡ told_of d (after s leaf.op)) }
 {}
 
 /// Where the law has no refusal, the author is in the access list, an admitted user isn't, and a removed
@@ -43,8 +44,8 @@ pub fn changes()
 /// that have a spelling, since no admission that has one gives it.
 pub fn owners()
     ensures stays { (s : State) (owner wall k : ℕ) (op : Op) → law s wall k op ≡ None → HasOwner owner s.entries → HasOwner owner (after s op).entries }
-    ensures listed { (d : List ℕ → List ℕ) (owner wall : ℕ) (leaves : List Leaf) → Lawful d owner wall leaves → HasOwner owner (state_of owner leaves).entries }
-    ensures some { (d : List ℕ → List ℕ) (owner wall : ℕ) (leaves : List Leaf) → Lawful d owner wall leaves → 0 < length (state_of owner leaves).entries }
+    ensures listed { (d : Digest) (owner wall : ℕ) (leaves : List Leaf) → Lawful d owner wall leaves → HasOwner owner (state_of owner leaves).entries }
+    ensures some { (d : Digest) (owner wall : ℕ) (leaves : List Leaf) → Lawful d owner wall leaves → 0 < length (state_of owner leaves).entries }
     ensures alone { (owner : ℕ) (leaves : List Leaf) → AllByRecursion IsLeaf leaves → IsOnlyOwner owner (state_of owner leaves).entries }
 {}
 
@@ -52,10 +53,10 @@ pub fn owners()
 /// where the leaf comes next. Whether a position is lawful depends on the leaves up to it alone, so a
 /// history whose first leaves are lawful and whose later positions are lawful one by one is lawful.
 pub fn extensions()
-    ensures empty { (d : List ℕ → List ℕ) (owner wall : ℕ) → Lawful d owner wall [] }
-    ensures added { (d : List ℕ → List ℕ) (owner wall : ℕ) (leaves : List Leaf) (leaf : Leaf) → Lawful d owner wall (leaves ++ leaf ∷ []) ↔ Lawful d owner wall leaves × ComesNext d (state_of owner leaves) wall (length leaves) leaf }
+    ensures empty { (d : Digest) (owner wall : ℕ) → Lawful d owner wall [] }
+    ensures added { (d : Digest) (owner wall : ℕ) (leaves : List Leaf) (leaf : Leaf) → Lawful d owner wall (leaves ++ leaf ∷ []) ↔ Lawful d owner wall leaves × ComesNext d (state_of owner leaves) wall (length leaves) leaf }
     ensures next { (owner : ℕ) (leaves : List Leaf) (k : ℕ) (leaf : Leaf) → slice_get leaves k ≡ Some leaf → state_of owner (take (k + 1) leaves) ≡ after (state_of owner (take k leaves)) leaf.op }
-    ensures position { (d : List ℕ → List ℕ) (owner wall : ℕ) (leaves : List Leaf) (k : ℕ) (leaf : Leaf) → slice_get leaves k ≡ Some leaf → IsLawfulAt d owner wall leaves k leaf ↔ ComesNext d (state_of owner (take k leaves)) wall k leaf }
-    ensures prefix { (d : List ℕ → List ℕ) (owner wall : ℕ) (left right : List Leaf) (n k : ℕ) (leaf : Leaf) → take n left ≡ take n right → k < n → IsLawfulAt d owner wall left k leaf → IsLawfulAt d owner wall right k leaf }
-    ensures rest { (d : List ℕ → List ℕ) (owner wall : ℕ) (leaves : List Leaf) (n : ℕ) → Lawful d owner wall (take n leaves) → ((k : ℕ) (leaf : Leaf) → n ≤ k → slice_get leaves k ≡ Some leaf → IsLawfulAt d owner wall leaves k leaf) → Lawful d owner wall leaves }
+    ensures position { (d : Digest) (owner wall : ℕ) (leaves : List Leaf) (k : ℕ) (leaf : Leaf) → slice_get leaves k ≡ Some leaf → IsLawfulAt d owner wall leaves k leaf ↔ ComesNext d (state_of owner (take k leaves)) wall k leaf }
+    ensures prefix { (d : Digest) (owner wall : ℕ) (left right : List Leaf) (n k : ℕ) (leaf : Leaf) → take n left ≡ take n right → k < n → IsLawfulAt d owner wall left k leaf → IsLawfulAt d owner wall right k leaf }
+    ensures rest { (d : Digest) (owner wall : ℕ) (leaves : List Leaf) (n : ℕ) → Lawful d owner wall (take n leaves) → ((k : ℕ) (leaf : Leaf) → n ≤ k → slice_get leaves k ≡ Some leaf → IsLawfulAt d owner wall leaves k leaf) → Lawful d owner wall leaves }
 {}
