@@ -24,7 +24,8 @@ filter-swap {X} p q (x ∷ xs) =
     ]
 
 -- where the outer test implies the inner one
-pub filter-within : {X : Type 0} (p q : X → Bool) → ((x : X) → p x ≡ true → q x ≡ true) → (xs : List X) → filter p (filter q xs) ≡ filter p xs
+pub filter-within : {X : Type 0} (p q : X → Bool) → ((x : X) → p x ≡ true → q x ≡ true) → (xs : List X)
+    → filter p (filter q xs) ≡ filter p xs
 filter-within p q implies [] = refl
 filter-within p q implies (x ∷ xs) =
     let others = filter-within p q implies xs in
@@ -37,7 +38,8 @@ filter-within p q implies (x ∷ xs) =
     ]
 
 -- where each test excludes the other
-pub filter-apart : {X : Type 0} (p q : X → Bool) → ((x : X) → q x ≡ true → p x ≡ false) → (xs : List X) → filter p (filter q xs) ≡ []
+pub filter-apart : {X : Type 0} (p q : X → Bool) → ((x : X) → q x ≡ true → p x ≡ false) → (xs : List X)
+    → filter p (filter q xs) ≡ []
 filter-apart p q excludes [] = refl
 filter-apart p q excludes (x ∷ xs) =
     let others = filter-apart p q excludes xs in
@@ -46,11 +48,13 @@ filter-apart p q excludes (x ∷ xs) =
       | inr lost ↦ rw lost others
     ]
 
-pub filter-all : {X : Type 0} (p : X → Bool) (xs : List X) → AllByRecursion (λ (x : X). p x ≡ true) xs → filter p xs ≡ xs
+pub filter-all : {X : Type 0} (p : X → Bool) (xs : List X) → AllByRecursion (λ (x : X). p x ≡ true) xs
+    → filter p xs ≡ xs
 filter-all p [] all = refl
 filter-all {X} p (x ∷ xs) all = rw all.0 (ap (λ (ys : List X). x ∷ ys) (filter-all p xs all.1))
 
-pub filter-none : {X : Type 0} (p : X → Bool) (xs : List X) → AllByRecursion (λ (x : X). p x ≡ false) xs → filter p xs ≡ []
+pub filter-none : {X : Type 0} (p : X → Bool) (xs : List X) → AllByRecursion (λ (x : X). p x ≡ false) xs
+    → filter p xs ≡ []
 filter-none p [] none = refl
 filter-none p (x ∷ xs) none = rw none.0 (filter-none p xs none.1)
 

@@ -82,20 +82,23 @@ among-entry_of (x ∷ es) e h (inr later) =
     rw (ne_eqb x.user e.user (λ is. omega arith)) (among-entry_of es e h.1 later)
 
 -- In a list whose users rise a user's entry is the member with that user.
-pub entry_of-exactly : (es : List Entry) (u : ℕ) (e : Entry) → IsRising es → (entry_of es u ≡ Some e) ↔ (Contains es e × (e.user ≡ u))
+pub entry_of-exactly : (es : List Entry) (u : ℕ) (e : Entry) → IsRising es
+    → (entry_of es u ≡ Some e) ↔ (Contains es e × (e.user ≡ u))
 entry_of-exactly es u e h = (
   λ found. let it = entry_of-among es u e found in (among-contains es e it.0, it.1),
   λ is. subst (λ (v : ℕ). entry_of es v ≡ Some e) is.1 (among-entry_of es e h (contains-among es e is.0)),
 )
 
 -- nobody has the user where the look-up finds none
-pub entry_of-nobody : (es : List Entry) (u : ℕ) (e : Entry) → IsRising es → entry_of es u ≡ None → Among e es → e.user ≢ u
+pub entry_of-nobody : (es : List Entry) (u : ℕ) (e : Entry) → IsRising es → entry_of es u ≡ None → Among e es
+    → e.user ≢ u
 entry_of-nobody es u e h none among = λ same. let found = among-entry_of es e h among in let none' : entry_of es e.user ≡ None = rw same none in absurd cc
 
 -- ---- lists with the same members
 
 -- the members of a rising list behind its first entry
-among-behind : (x y : Entry) (xs ys : List Entry) → x ≡ y → AllByRecursion (λ (e : Entry). x.user < e.user) xs → ((e : Entry) → Among e (x ∷ xs) → Among e (y ∷ ys)) → (e : Entry) → Among e xs → Among e ys
+among-behind : (x y : Entry) (xs ys : List Entry) → x ≡ y → AllByRecursion (λ (e : Entry). x.user < e.user) xs
+    → ((e : Entry) → Among e (x ∷ xs) → Among e (y ∷ ys)) → (e : Entry) → Among e xs → Among e ys
 among-behind x y xs ys first above inside e among = elim (inside e (inr among)) [
   | inl same ↦
       let greater = All-among (λ (z : Entry). x.user < z.user) xs e above among in
@@ -105,7 +108,8 @@ among-behind x y xs ys first above inside e among = elim (inside e (inr among)) 
   | inr later ↦ later
 ]
 
-first-same : (x y : Entry) (xs ys : List Entry) → IsRising (x ∷ xs) → IsRising (y ∷ ys) → Among x (y ∷ ys) → Among y (x ∷ xs) → x ≡ y
+first-same : (x y : Entry) (xs ys : List Entry) → IsRising (x ∷ xs) → IsRising (y ∷ ys) → Among x (y ∷ ys)
+    → Among y (x ∷ xs) → x ≡ y
 first-same x y xs ys hx hy (inl same) there = same
 first-same x y xs ys hx hy (inr later) (inl same) = sym same
 first-same x y xs ys hx hy (inr later) (inr later') =
@@ -113,7 +117,8 @@ first-same x y xs ys hx hy (inr later) (inr later') =
     let less = All-among (λ (e : Entry). x.user < e.user) xs y hx.0 later' in
     absurd (omega arith)
 
-among-same : (xs ys : List Entry) → IsRising xs → IsRising ys → ((e : Entry) → Among e xs → Among e ys) → ((e : Entry) → Among e ys → Among e xs) → xs ≡ ys
+among-same : (xs ys : List Entry) → IsRising xs → IsRising ys → ((e : Entry) → Among e xs → Among e ys)
+    → ((e : Entry) → Among e ys → Among e xs) → xs ≡ ys
 among-same [] [] hx hy right left = refl
 among-same [] (y ∷ ys) hx hy right left = absurd (left y (inl refl))
 among-same (x ∷ xs) [] hx hy right left = absurd (right x (inl refl))
@@ -123,17 +128,22 @@ among-same (x ∷ xs) (y ∷ ys) hx hy right left =
     ap (λ (e : Entry). e ∷ xs) first ∙ ap (λ (es : List Entry). y ∷ es) others
 
 -- two rising lists with the same members are one
-pub rising-same : (xs ys : List Entry) → IsRising xs → IsRising ys → ((e : Entry) → Contains xs e → Contains ys e) → ((e : Entry) → Contains ys e → Contains xs e) → xs ≡ ys
+pub rising-same : (xs ys : List Entry) → IsRising xs → IsRising ys → ((e : Entry) → Contains xs e → Contains ys e)
+    → ((e : Entry) → Contains ys e → Contains xs e) → xs ≡ ys
 rising-same xs ys hx hy right left =
     among-same xs ys hx hy (λ e among. contains-among ys e (right e (among-contains xs e among))) (λ e among. contains-among xs e (left e (among-contains ys e among)))
 
-among-looked_up : (xs ys : List Entry) → IsRising xs → ((u : ℕ) → entry_of xs u ≡ entry_of ys u) → (e : Entry) → Among e xs → Among e ys
+among-looked_up : (xs ys : List Entry) → IsRising xs → ((u : ℕ) → entry_of xs u ≡ entry_of ys u) → (e : Entry)
+    → Among e xs → Among e ys
 among-looked_up xs ys h same e among = (entry_of-among ys e.user e (sym (same e.user) ∙ among-entry_of xs e h among)).0
 
 -- two rising lists with the same look-ups are one
-pub rising-looked_up : (xs ys : List Entry) → IsRising xs → IsRising ys → ((u : ℕ) → entry_of xs u ≡ entry_of ys u) → xs ≡ ys
+pub rising-looked_up : (xs ys : List Entry) → IsRising xs → IsRising ys → ((u : ℕ) → entry_of xs u ≡ entry_of ys u)
+    → xs ≡ ys
 rising-looked_up xs ys hx hy same = among-same xs ys hx hy (among-looked_up xs ys hx same) (among-looked_up ys xs hy (λ u. sym (same u)))
 
 -- the digest of a list depends on the set alone
-pub set_digest-same : (d : Digest) (xs ys : List Entry) → IsRising xs → IsRising ys → ((e : Entry) → Contains xs e → Contains ys e) → ((e : Entry) → Contains ys e → Contains xs e) → set_digest d xs ≡ set_digest d ys
+pub set_digest-same : (d : Digest) (xs ys : List Entry) → IsRising xs → IsRising ys
+    → ((e : Entry) → Contains xs e → Contains ys e) → ((e : Entry) → Contains ys e → Contains xs e)
+    → set_digest d xs ≡ set_digest d ys
 set_digest-same d xs ys hx hy right left = ap (set_digest d) (rising-same xs ys hx hy right left)

@@ -15,7 +15,8 @@ append-same a b x y long same = (
 )
 
 -- numbers of four bytes
-number-same : (m n : ℕ) (x y : List ℕ) → m < 2 ^ 32 → n < 2 ^ 32 → to_be_bytes w32 m ++ x ≡ to_be_bytes w32 n ++ y → (m ≡ n) × (x ≡ y)
+number-same : (m n : ℕ) (x y : List ℕ) → m < 2 ^ 32 → n < 2 ^ 32 → to_be_bytes w32 m ++ x ≡ to_be_bytes w32 n ++ y
+    → (m ≡ n) × (x ≡ y)
 number-same m n x y small small' same =
     let parts = append-same (to_be_bytes w32 m) (to_be_bytes w32 n) x y refl same in
     (sym (from_be_bytes-to_be_bytes_4 m small) ∙ ap (from_be_bytes w32) parts.0 ∙ from_be_bytes-to_be_bytes_4 n small', parts.1)
@@ -41,7 +42,8 @@ flags-counts None (Some r) = refl
 flags-counts (Some l) None = refl
 flags-counts (Some l) (Some r) = refl
 
-length-child_text : (n : ℕ) (l m : Option (List ℕ)) → IsSized n l → IsSized n m → count_of l ≡ count_of m → length (child_text l) ≡ length (child_text m)
+length-child_text : (n : ℕ) (l m : Option (List ℕ)) → IsSized n l → IsSized n m → count_of l ≡ count_of m
+    → length (child_text l) ≡ length (child_text m)
 length-child_text n None None sl sm same = refl
 length-child_text n None (Some m) sl sm same = absurd (omega arith)
 length-child_text n (Some l) None sl sm same = absurd (omega arith)
@@ -53,7 +55,8 @@ child-same None (Some m) same text = absurd (omega arith)
 child-same (Some l) None same text = absurd (omega arith)
 child-same (Some l) (Some m) same text = ap (λ (x : List ℕ). Some x) text
 
-children-same : (n : ℕ) (l r m q : Option (List ℕ)) → IsSized n l → IsSized n m → flags l r ≡ flags m q → child_text l ++ child_text r ≡ child_text m ++ child_text q → (l ≡ m) × (r ≡ q)
+children-same : (n : ℕ) (l r m q : Option (List ℕ)) → IsSized n l → IsSized n m → flags l r ≡ flags m q
+    → child_text l ++ child_text r ≡ child_text m ++ child_text q → (l ≡ m) × (r ≡ q)
 children-same n l r m q sl sm flag text =
     let sums : count_of l + 2 * count_of r ≡ count_of m + 2 * count_of q = sym (flags-counts l r) ∙ flag ∙ flags-counts m q in
     let small = count_of-le l in
@@ -70,7 +73,8 @@ entry-same e f user role next =
     ap (λ (n : ℕ). record e { user = n }) user ∙ ap (λ (n : ℕ). record f { role = n; next = e.next }) role ∙ ap (λ (n : ℕ). record f { next = n }) next
 
 -- The string of a node is one-to-one, over entries in range and digests of one length.
-pub node_text-same : (n : ℕ) (e f : Entry) (l r m q : Option (List ℕ)) → IsInRange e → IsInRange f → IsSized n l → IsSized n m
+pub node_text-same : (n : ℕ) (e f : Entry) (l r m q : Option (List ℕ)) → IsInRange e → IsInRange f → IsSized n l
+    → IsSized n m
     → node_text e l r ≡ node_text f m q → (e ≡ f) × (l ≡ m) × (r ≡ q)
 node_text-same n e f l r m q he hf sl sm same =
     let behind_tag : to_be_bytes w32 e.user ++ (e.role ∷ (to_be_bytes w32 e.next ++ (flags l r ∷ (child_text l ++ child_text r)))) ≡ to_be_bytes w32 f.user ++ (f.role ∷ (to_be_bytes w32 f.next ++ (flags m q ∷ (child_text m ++ child_text q)))) = ap (drop 1) same in

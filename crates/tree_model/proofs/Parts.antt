@@ -17,7 +17,8 @@ use Rattle.tree_model.proofs.Tops.{NoneAbove, higher, top-among, top-filter, top
 -- ---- a list around one of its entries
 
 -- a set is its smaller users, an entry and its greater users
-pub around-same : (es : List Entry) (t : Entry) → IsRising es → Among t es → smaller t.user es ++ (t ∷ greater t.user es) ≡ es
+pub around-same : (es : List Entry) (t : Entry) → IsRising es → Among t es
+    → smaller t.user es ++ (t ∷ greater t.user es) ≡ es
 around-same [] t h among = absurd among
 around-same (e ∷ es) t h (inl same) =
     let self : ltb e.user e.user ≡ false = le-ltb e.user e.user (omega arith) in
@@ -33,12 +34,14 @@ All-behind : (P : Entry → Type 0) (xs ys : List Entry) → AllByRecursion P (x
 All-behind P [] ys all = all
 All-behind P (x ∷ xs) ys all = All-behind P xs ys all.1
 
-below-behind : (xs ys : List Entry) (t : Entry) → IsRising (xs ++ ys) → Among t ys → AllByRecursion (λ (x : Entry). x.user < t.user) xs
+below-behind : (xs ys : List Entry) (t : Entry) → IsRising (xs ++ ys) → Among t ys
+    → AllByRecursion (λ (x : Entry). x.user < t.user) xs
 below-behind [] ys t h among = tt
 below-behind (x ∷ xs) ys t h among =
     (All-among (λ (y : Entry). x.user < y.user) (xs ++ ys) t h.0 (among-append_right xs ys t among), below-behind xs ys t h.1 among)
 
-above-before : (xs ys : List Entry) (s : Entry) → IsRising (xs ++ ys) → Among s xs → AllByRecursion (λ (y : Entry). s.user < y.user) ys
+above-before : (xs ys : List Entry) (s : Entry) → IsRising (xs ++ ys) → Among s xs
+    → AllByRecursion (λ (y : Entry). s.user < y.user) ys
 above-before [] ys s h among = absurd among
 above-before (x ∷ xs) ys s h (inl same) = rw same (All-behind (λ (y : Entry). x.user < y.user) xs ys h.0)
 above-before (x ∷ xs) ys s h (inr later) = above-before xs ys s h.1 later
@@ -49,27 +52,33 @@ smaller-append u xs ys = filter-append (λ (x : Entry). ltb x.user u) xs ys
 greater-append : (u : ℕ) (xs ys : List Entry) → greater u (xs ++ ys) ≡ greater u xs ++ greater u ys
 greater-append u xs ys = filter-append (λ (x : Entry). ltb u x.user) xs ys
 
-pub smaller-append_right : (xs ys : List Entry) (t : Entry) → IsRising (xs ++ ys) → Among t ys → smaller t.user (xs ++ ys) ≡ xs ++ smaller t.user ys
+pub smaller-append_right : (xs ys : List Entry) (t : Entry) → IsRising (xs ++ ys) → Among t ys
+    → smaller t.user (xs ++ ys) ≡ xs ++ smaller t.user ys
 smaller-append_right xs ys t h among =
     let below = All-weaker (λ (x : Entry). x.user < t.user) (λ (x : Entry). ltb x.user t.user ≡ true) (λ x less. lt-ltb x.user t.user less) xs (below-behind xs ys t h among) in
     smaller-append t.user xs ys ∙ ap (λ (es : List Entry). es ++ smaller t.user ys) (filter-all (λ (x : Entry). ltb x.user t.user) xs below)
 
-pub greater-append_right : (xs ys : List Entry) (t : Entry) → IsRising (xs ++ ys) → Among t ys → greater t.user (xs ++ ys) ≡ greater t.user ys
+pub greater-append_right : (xs ys : List Entry) (t : Entry) → IsRising (xs ++ ys) → Among t ys
+    → greater t.user (xs ++ ys) ≡ greater t.user ys
 greater-append_right xs ys t h among =
     let below = All-weaker (λ (x : Entry). x.user < t.user) (λ (x : Entry). ltb t.user x.user ≡ false) (λ x less. le-ltb t.user x.user (omega arith)) xs (below-behind xs ys t h among) in
     greater-append t.user xs ys ∙ ap (λ (es : List Entry). es ++ greater t.user ys) (filter-none (λ (x : Entry). ltb t.user x.user) xs below)
 
-pub smaller-append_left : (xs ys : List Entry) (s : Entry) → IsRising (xs ++ ys) → Among s xs → smaller s.user (xs ++ ys) ≡ smaller s.user xs
+pub smaller-append_left : (xs ys : List Entry) (s : Entry) → IsRising (xs ++ ys) → Among s xs
+    → smaller s.user (xs ++ ys) ≡ smaller s.user xs
 smaller-append_left xs ys s h among =
     smaller-append s.user xs ys ∙ ap (λ (es : List Entry). smaller s.user xs ++ es) (smaller-none s.user ys (above-before xs ys s h among)) ∙ append-nil (smaller s.user xs)
 
-pub greater-append_left : (xs ys : List Entry) (s : Entry) → IsRising (xs ++ ys) → Among s xs → greater s.user (xs ++ ys) ≡ greater s.user xs ++ ys
+pub greater-append_left : (xs ys : List Entry) (s : Entry) → IsRising (xs ++ ys) → Among s xs
+    → greater s.user (xs ++ ys) ≡ greater s.user xs ++ ys
 greater-append_left xs ys s h among =
     greater-append s.user xs ys ∙ ap (λ (es : List Entry). greater s.user xs ++ es) (greater-all s.user ys (above-before xs ys s h among))
 
 -- ---- with a next number
 
-smaller_case : (u user next : ℕ) (e : Entry) (es : List Entry) → smaller u (with_next user next es) ≡ with_next user next (smaller u es) → smaller u (with_next user next (e ∷ es)) ≡ with_next user next (smaller u (e ∷ es))
+smaller_case : (u user next : ℕ) (e : Entry) (es : List Entry)
+    → smaller u (with_next user next es) ≡ with_next user next (smaller u es)
+    → smaller u (with_next user next (e ∷ es)) ≡ with_next user next (smaller u (e ∷ es))
 smaller_case u user next e es others =
     let same = numbered-user user next e in
     elim (cases_Bool (ltb e.user u)) [
@@ -77,11 +86,14 @@ smaller_case u user next e es others =
       | inr not_less ↦ let not_less' : ltb (numbered user next e).user u ≡ false = rw same not_less in rw (not_less', not_less) others
     ]
 
-pub smaller-with_next : (u user next : ℕ) (es : List Entry) → smaller u (with_next user next es) ≡ with_next user next (smaller u es)
+pub smaller-with_next : (u user next : ℕ) (es : List Entry)
+    → smaller u (with_next user next es) ≡ with_next user next (smaller u es)
 smaller-with_next u user next [] = refl
 smaller-with_next u user next (e ∷ es) = smaller_case u user next e es (smaller-with_next u user next es)
 
-greater_case : (u user next : ℕ) (e : Entry) (es : List Entry) → greater u (with_next user next es) ≡ with_next user next (greater u es) → greater u (with_next user next (e ∷ es)) ≡ with_next user next (greater u (e ∷ es))
+greater_case : (u user next : ℕ) (e : Entry) (es : List Entry)
+    → greater u (with_next user next es) ≡ with_next user next (greater u es)
+    → greater u (with_next user next (e ∷ es)) ≡ with_next user next (greater u (e ∷ es))
 greater_case u user next e es others =
     let same = numbered-user user next e in
     elim (cases_Bool (ltb u e.user)) [
@@ -89,11 +101,13 @@ greater_case u user next e es others =
       | inr not_more ↦ let not_more' : ltb u (numbered user next e).user ≡ false = rw same not_more in rw (not_more', not_more) others
     ]
 
-pub greater-with_next : (u user next : ℕ) (es : List Entry) → greater u (with_next user next es) ≡ with_next user next (greater u es)
+pub greater-with_next : (u user next : ℕ) (es : List Entry)
+    → greater u (with_next user next es) ≡ with_next user next (greater u es)
 greater-with_next u user next [] = refl
 greater-with_next u user next (e ∷ es) = greater_case u user next e es (greater-with_next u user next es)
 
-higher-numbered : (user next : ℕ) (best e : Entry) → higher (numbered user next best) (numbered user next e) ≡ numbered user next (higher best e)
+higher-numbered : (user next : ℕ) (best e : Entry)
+    → higher (numbered user next best) (numbered user next e) ≡ numbered user next (higher best e)
 higher-numbered user next best e =
     let same = numbered-user user next e in
     let same' = numbered-user user next best in
@@ -101,13 +115,15 @@ higher-numbered user next best e =
     ap (λ (b : Bool). cond b (numbered user next e) (numbered user next best)) test
     ∙ elim (is_above e.user best.user) as (λ b. cond b (numbered user next e) (numbered user next best) ≡ numbered user next (cond b e best)) [ true ↦ refl | false ↦ refl ]
 
-greatest-numbered : (user next : ℕ) (best : Entry) (es : List Entry) → greatest (numbered user next best) (with_next user next es) ≡ numbered user next (greatest best es)
+greatest-numbered : (user next : ℕ) (best : Entry) (es : List Entry)
+    → greatest (numbered user next best) (with_next user next es) ≡ numbered user next (greatest best es)
 unfolding greatest
 greatest-numbered user next best [] = refl
 greatest-numbered user next best (e ∷ es) =
     ap (λ (x : Entry). greatest x (with_next user next es)) (higher-numbered user next best e) ∙ greatest-numbered user next (higher best e) es
 
-pub top-with_next : (user next : ℕ) (es : List Entry) → top_of (with_next user next es) ≡ option_map (numbered user next) (top_of es)
+pub top-with_next : (user next : ℕ) (es : List Entry)
+    → top_of (with_next user next es) ≡ option_map (numbered user next) (top_of es)
 unfolding top_of
 top-with_next user next [] = refl
 top-with_next user next (e ∷ es) = ap (λ (x : Entry). Some x) (greatest-numbered user next e es)
@@ -122,7 +138,8 @@ with_next-absent user next (e ∷ es) none = elim (cases_eq e.user user) [
 -- ---- with an entry
 
 -- a part that keeps the entry
-filter-with_entry : (q : Entry → Bool) (e : Entry) (es : List Entry) → q e ≡ true → filter q (with_entry e es) ≡ with_entry e (filter q es)
+filter-with_entry : (q : Entry → Bool) (e : Entry) (es : List Entry) → q e ≡ true
+    → filter q (with_entry e es) ≡ with_entry e (filter q es)
 filter-with_entry q e es kept =
     let alone : filter q (e ∷ []) ≡ e ∷ [] = rw kept refl in
     filter-append q (smaller e.user es ++ e ∷ []) (greater e.user es)
@@ -130,16 +147,19 @@ filter-with_entry q e es kept =
     ∙ ap (λ (xs : List Entry). (xs ++ e ∷ []) ++ filter q (greater e.user es)) (filter-swap q (λ (x : Entry). ltb x.user e.user) es)
     ∙ ap (λ (xs : List Entry). (smaller e.user (filter q es) ++ e ∷ []) ++ xs) (filter-swap q (λ (x : Entry). ltb e.user x.user) es)
 
-pub smaller-with_entry : (u : ℕ) (e : Entry) (es : List Entry) → e.user < u → smaller u (with_entry e es) ≡ with_entry e (smaller u es)
+pub smaller-with_entry : (u : ℕ) (e : Entry) (es : List Entry) → e.user < u
+    → smaller u (with_entry e es) ≡ with_entry e (smaller u es)
 smaller-with_entry u e es less = filter-with_entry (λ (x : Entry). ltb x.user u) e es (lt-ltb e.user u less)
 
-pub greater-with_entry : (u : ℕ) (e : Entry) (es : List Entry) → u < e.user → greater u (with_entry e es) ≡ with_entry e (greater u es)
+pub greater-with_entry : (u : ℕ) (e : Entry) (es : List Entry) → u < e.user
+    → greater u (with_entry e es) ≡ with_entry e (greater u es)
 greater-with_entry u e es more = filter-with_entry (λ (x : Entry). ltb u x.user) e es (lt-ltb u e.user more)
 
 greater-smaller_none : (u t : ℕ) (es : List Entry) → t ≤ u → greater u (smaller t es) ≡ []
 greater-smaller_none u t es high = filter-swap (λ (x : Entry). ltb u x.user) (λ (x : Entry). ltb x.user t) es ∙ smaller-greater_none t u es high
 
-pub smaller-with_entry_same : (u : ℕ) (e : Entry) (es : List Entry) → u ≤ e.user → smaller u (with_entry e es) ≡ smaller u es
+pub smaller-with_entry_same : (u : ℕ) (e : Entry) (es : List Entry) → u ≤ e.user
+    → smaller u (with_entry e es) ≡ smaller u es
 smaller-with_entry_same u e es low =
     let alone : smaller u (e ∷ []) ≡ [] = rw (le-ltb e.user u low) refl in
     smaller-append u (smaller e.user es ++ e ∷ []) (greater e.user es)
@@ -150,21 +170,24 @@ smaller-with_entry_same u e es low =
     ∙ append-nil (smaller u (smaller e.user es))
     ∙ smaller-smaller u e.user es low
 
-pub greater-with_entry_same : (u : ℕ) (e : Entry) (es : List Entry) → e.user ≤ u → greater u (with_entry e es) ≡ greater u es
+pub greater-with_entry_same : (u : ℕ) (e : Entry) (es : List Entry) → e.user ≤ u
+    → greater u (with_entry e es) ≡ greater u es
 greater-with_entry_same u e es high =
     let alone : greater u (e ∷ []) ≡ [] = rw (le-ltb u e.user high) refl in
     greater-append u (smaller e.user es ++ e ∷ []) (greater e.user es)
     ∙ ap (λ (xs : List Entry). xs ++ greater u (greater e.user es)) (greater-append u (smaller e.user es) (e ∷ []) ∙ ap (λ (xs : List Entry). xs ++ greater u (e ∷ [])) (greater-smaller_none u e.user es high) ∙ alone)
     ∙ greater-greater u e.user es high
 
-All-with_entry : (P : Entry → Type 0) (e : Entry) (es : List Entry) → P e → AllByRecursion P es → AllByRecursion P (with_entry e es)
+All-with_entry : (P : Entry → Type 0) (e : Entry) (es : List Entry) → P e → AllByRecursion P es
+    → AllByRecursion P (with_entry e es)
 All-with_entry P e es here all =
     All-append P (smaller e.user es ++ e ∷ []) (greater e.user es) (All-append P (smaller e.user es) (e ∷ []) (All-filter P (λ (x : Entry). ltb x.user e.user) es all) (here, tt)) (All-filter P (λ (x : Entry). ltb e.user x.user) es all)
 
 pub among-with_entry : (e : Entry) (es : List Entry) → Among e (with_entry e es)
 among-with_entry e es = among-append_left (smaller e.user es ++ e ∷ []) (greater e.user es) e (among-append_right (smaller e.user es) (e ∷ []) e (inl refl))
 
-pub among-with_entry_other : (e : Entry) (es : List Entry) (x : Entry) → Among x es → x.user ≢ e.user → Among x (with_entry e es)
+pub among-with_entry_other : (e : Entry) (es : List Entry) (x : Entry) → Among x es → x.user ≢ e.user
+    → Among x (with_entry e es)
 among-with_entry_other e es x among apart = elim (cases_order x.user e.user) [
   | inl same ↦ absurd (apart same)
   | inr (inl less) ↦ among-append_left (smaller e.user es ++ e ∷ []) (greater e.user es) x (among-append_left (smaller e.user es) (e ∷ []) x (among-filter (λ (y : Entry). ltb y.user e.user) es x among (lt-ltb x.user e.user less)))
@@ -178,7 +201,8 @@ none-above_still a b es ab none =
     (λ x no_xb. elim (cases_Bool (is_above x.user a)) [ inl xa ↦ let xb = above-trans x.user a b xa ab in absurd cc | inr no_xa ↦ no_xa ]) es none
 
 -- The top of a set with a further entry is the greater of that entry and the set's top.
-pub top-with_entry : (e : Entry) (es : List Entry) (t : Entry) → IsRising es → entry_of es e.user ≡ None → top_of es ≡ Some t → top_of (with_entry e es) ≡ Some (cond (is_above e.user t.user) e t)
+pub top-with_entry : (e : Entry) (es : List Entry) (t : Entry) → IsRising es → entry_of es e.user ≡ None
+    → top_of es ≡ Some t → top_of (with_entry e es) ≡ Some (cond (is_above e.user t.user) e t)
 top-with_entry e es t h absent top =
     let among = top-among es t top in
     let none = top-none_above es t top in
@@ -196,7 +220,8 @@ smaller-without u user es = filter-swap (λ (x : Entry). ltb x.user u) (λ (x : 
 pub greater-without : (u user : ℕ) (es : List Entry) → greater u (without user es) ≡ without user (greater u es)
 greater-without u user es = filter-swap (λ (x : Entry). ltb u x.user) (λ (x : Entry). not (nat_eq x.user user)) es
 
-pub top-without : (user : ℕ) (es : List Entry) (t : Entry) → IsRising es → top_of es ≡ Some t → t.user ≢ user → top_of (without user es) ≡ Some t
+pub top-without : (user : ℕ) (es : List Entry) (t : Entry) → IsRising es → top_of es ≡ Some t → t.user ≢ user
+    → top_of (without user es) ≡ Some t
 top-without user es t h top apart = top-filter (λ (x : Entry). not (nat_eq x.user user)) es t h top (rw (ne_eqb t.user user apart) refl)
 
 without-above : (user : ℕ) (es : List Entry) → AllByRecursion (λ (x : Entry). user < x.user) es → without user es ≡ es
@@ -205,7 +230,8 @@ without-above user es all =
     (All-weaker (λ (x : Entry). user < x.user) (λ (x : Entry). not (nat_eq x.user user) ≡ true) (λ x more. rw (ne_eqb x.user user (λ is. omega arith)) refl) es all)
 
 -- what is left around the entry that goes
-pub without-around : (es : List Entry) (t : Entry) → IsRising es → Among t es → without t.user es ≡ smaller t.user es ++ greater t.user es
+pub without-around : (es : List Entry) (t : Entry) → IsRising es → Among t es
+    → without t.user es ≡ smaller t.user es ++ greater t.user es
 without-around [] t h among = absurd among
 without-around (e ∷ es) t h (inl same) =
     let self : ltb e.user e.user ≡ false = le-ltb e.user e.user (omega arith) in

@@ -96,7 +96,8 @@ top-none (e ∷ es) none = absurd cc
 -- ---- the top of parts
 
 -- It is the top of each part that has it.
-pub top-filter : (p : Entry → Bool) (es : List Entry) (t : Entry) → IsRising es → top_of es ≡ Some t → p t ≡ true → top_of (filter p es) ≡ Some t
+pub top-filter : (p : Entry → Bool) (es : List Entry) (t : Entry) → IsRising es → top_of es ≡ Some t → p t ≡ true
+    → top_of (filter p es) ≡ Some t
 top-filter p es t h top passes =
     top-is (filter p es) t (rising-filter p es h) (among-filter p es t (top-among es t top) passes) (All-filter (λ (x : Entry). is_above x.user t.user ≡ false) p es (top-none_above es t top))
 
@@ -137,7 +138,8 @@ greatest-append x [] ys = refl
 greatest-append x (z ∷ zs) ys = greatest-append (higher x z) zs ys
 
 -- The top of two lists in a row is the greater of their tops.
-pub top-append : (xs ys : List Entry) (s t : Entry) → top_of xs ≡ Some s → top_of ys ≡ Some t → top_of (xs ++ ys) ≡ Some (cond (is_above t.user s.user) t s)
+pub top-append : (xs ys : List Entry) (s t : Entry) → top_of xs ≡ Some s → top_of ys ≡ Some t
+    → top_of (xs ++ ys) ≡ Some (cond (is_above t.user s.user) t s)
 unfolding top_of
 top-append [] ys s t left right = absurd cc
 top-append (x ∷ xs) [] s t left right = absurd cc
