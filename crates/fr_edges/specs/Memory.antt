@@ -73,7 +73,8 @@ Delivered m reply out (Err ends.Lost) = next_fails m.schedule ≡ true
 Delivered m reply out (Err ends.NoMemory) = Unit {0}
 
 abbrev pub Stays : MemWire → MemWire → Type 0
-Stays before now = (now.schedule ≡ before.schedule) × (now.replies.items ≡ before.replies.items) × (now.log.items ≡ before.log.items)
+Stays before now = (now.schedule ≡ before.schedule) × (now.replies.items ≡ before.replies.items)
+    × (now.log.items ≡ before.log.items)
 
 -- a carry that found no memory didn't happen
 abbrev pub WireGoes : MemWire → MemWire → Result (Unit {0}) CarryEnd → Type 0
@@ -84,12 +85,18 @@ WireGoes before now (Err ends.NoMemory) = Stays before now
 -- a carry that is lost, or finds no memory
 abbrev pub Loses : MemWire → MemWire → List ℕ → List ℕ → Result (Unit {0}) CarryEnd → Type 0
 Loses before now request reply (Ok _) = ⊥
-Loses before now request reply (Err ends.Lost) = Goes before.schedule now.schedule × Rose before.schedule.faults now.schedule.faults × (before.schedule.faults ≤ now.schedule.faults) × (now.replies.items ≡ before.replies.items) × (now.log.items ≡ before.log.items ++ record { request = request; reply = reply; delivered = None } ∷ [])
+Loses before now request reply (Err ends.Lost) = Goes before.schedule now.schedule
+    × Rose before.schedule.faults now.schedule.faults × (before.schedule.faults ≤ now.schedule.faults)
+    × (now.replies.items ≡ before.replies.items)
+    × (now.log.items ≡ before.log.items ++ record { request = request; reply = reply; delivered = None } ∷ [])
 Loses before now request reply (Err ends.NoMemory) = Stays before now
 
 -- a carry that delivers, or finds no memory
 abbrev pub Brings : MemWire → MemWire → List ℕ → List ℕ → List ℕ → Result (Unit {0}) CarryEnd → Type 0
-Brings before now request reply out (Ok _) = Goes before.schedule now.schedule × (now.schedule.faults ≡ before.schedule.faults) × (now.replies.items ≡ before.replies.items) × (now.log.items ≡ before.log.items ++ record { request = request; reply = reply; delivered = Some out } ∷ []) × (out ≡ replaced before.replies.items before.schedule.calls reply)
+Brings before now request reply out (Ok _) = Goes before.schedule now.schedule
+    × (now.schedule.faults ≡ before.schedule.faults) × (now.replies.items ≡ before.replies.items)
+    × (now.log.items ≡ before.log.items ++ record { request = request; reply = reply; delivered = Some out } ∷ [])
+    × (out ≡ replaced before.replies.items before.schedule.calls reply)
 Brings before now request reply out (Err ends.Lost) = ⊥
 Brings before now request reply out (Err ends.NoMemory) = Stays before now
 

@@ -16,7 +16,8 @@ pub fn one_spelling_of_ops()
 pub fn one_spelling_of_leaves()
     ensures one_value { (x y : Leaf) (bytes : List ℕ) → SpellsLeaf x bytes → SpellsLeaf y bytes → x ≡ y }
     ensures one_text { (x : Leaf) (a b : List ℕ) → SpellsLeaf x a → SpellsLeaf x b → a ≡ b }
-    ensures lists { (xs ys : List Leaf) → AllByRecursion IsLeaf xs → AllByRecursion IsLeaf ys → map leaf_text xs ≡ map leaf_text ys → xs ≡ ys }
+    ensures lists { (xs ys : List Leaf) → AllByRecursion IsLeaf xs → AllByRecursion IsLeaf ys
+        → map leaf_text xs ≡ map leaf_text ys → xs ≡ ys }
 {}
 
 /// What a slice of bytes holds are bytes.

@@ -1,5 +1,6 @@
 -- Lawful histories.
 use Rattle.std.specs.Prelude.{◌≡◌, ℕ, ◌+◌, ◌<◌, List, take, Option, Some, None, slice_get}
+use Rattle.fr_bytes.specs.Bytes.{Text}
 use Rattle.fr_digest.specs.Digest.{Digest}
 use Rattle.op_types.specs.declared.op.Leaf.{Leaf}
 use Rattle.tree_model.specs.declared.entry.Entry.{Entry}
@@ -10,7 +11,7 @@ use Rattle.wall_law.specs.Law.{law_of, law}
 
 -- what a leaf tells of the state after it: the digest of the access list and the epoch
 pub record Told : Type 0 where
-  pub list : List ℕ
+  pub list : Text
   pub epoch : ℕ
 
 abbrev pub told : Leaf → Told
@@ -21,7 +22,8 @@ told_of d s = record { list = dict d s.entries; epoch = s.epoch }
 
 -- One position passes, over what was told before it, the entries that were found, the digest of the list
 -- that its operation leaves, and the roots of the versions before it.
-pub record PositionPasses (before : Told) (author changed : Option Entry) (list_after : List ℕ) (root_at : ℕ → Option (List ℕ)) (wall k : ℕ) (leaf : Leaf) : Type 0 where
+pub record PositionPasses (before : Told) (author changed : Option Entry) (list_after : Text) (root_at : ℕ → Option Text)
+    (wall k : ℕ) (leaf : Leaf) : Type 0 where
   pub lawful : law_of author changed before.epoch wall k leaf.op ≡ None
   pub seen : 0 < leaf.op.view.size → root_at leaf.op.view.size ≡ Some leaf.op.view.root
   pub tells : told leaf ≡ (record { list = list_after; epoch = epoch_after before.epoch leaf.op })
@@ -33,7 +35,8 @@ pub record IsLawfulAt (d : Digest) (owner wall : ℕ) (leaves : List Leaf) (k : 
   pub tells : told leaf ≡ told_of d (state_of owner (take (k + 1) leaves))
 
 abbrev pub Lawful : Digest → ℕ → ℕ → List Leaf → Type 0
-Lawful d owner wall leaves = (k : ℕ) (leaf : Leaf) → slice_get leaves k ≡ Some leaf → IsLawfulAt d owner wall leaves k leaf
+Lawful d owner wall leaves = (k : ℕ) (leaf : Leaf) → slice_get leaves k ≡ Some leaf
+    → IsLawfulAt d owner wall leaves k leaf
 
 -- A leaf comes next in a state, at position k: the law has no refusal there, and the leaf tells the state
 -- after it.
