@@ -1,5 +1,5 @@
 //! Entries of calls, each in memory that came with it.
-ghost use Rattle.std.specs.Prelude.{◌≡◌, ◌++◌, ◌∷◌, []};
+ghost use Rattle.std.specs.Prelude.{◌≡◌, ◌++◌, ◌∷◌, [], None};
 ghost use Rattle.std.specs.Option.{option_to_list};
 
 use fr_bytes::NoMemory;
@@ -78,7 +78,8 @@ impl<E: Drop> Calls<E> {
 
     /// Takes the last entry off, where there is one.
     pub fn pop(&mut self) -> Option<E>
-        ensures { self.old ≡ self.new ++ option_to_list result }
+        ensures taken { self.old ≡ self.new ++ option_to_list result }
+        ensures none { result ≡ None → self.old ≡ [] }
     {
         let whole = mem::replace(self, Calls::new());
         match whole.into_last() {
