@@ -12,9 +12,7 @@ mod changed_replies;
 mod collisions;
 mod failing_edges;
 mod forged;
-mod rows;
-mod straight_wires;
-mod words_and_scripts;
+mod handed_out;
 
 /// The first example: user 1 lets user 2 in and out again.
 const SCRIPT: &[u8] = b"1 admit 2 writer
@@ -61,27 +59,12 @@ fn replacing(alloc: Global, number: usize, reply: Bytes) -> Result<MemWire, NoMe
 fn wires(alloc: Global, first: MemWire) -> Result<Vec<MemWire>, NoMemory>
     ensures { IfOk result (λ wires. length wires.items ≡ 16) }
 {
-    Ok(Vec::from_array(
-        alloc,
-        [
-            first,
-            no_wire(alloc),
-            no_wire(alloc),
-            no_wire(alloc),
-            no_wire(alloc),
-            no_wire(alloc),
-            no_wire(alloc),
-            no_wire(alloc),
-            no_wire(alloc),
-            no_wire(alloc),
-            no_wire(alloc),
-            no_wire(alloc),
-            no_wire(alloc),
-            no_wire(alloc),
-            no_wire(alloc),
-            no_wire(alloc),
-        ],
-    )?)
+    let mut wires = Vec::new(alloc);
+    wires.push(first)?;
+    for _ in 0..15 {
+        wires.push(no_wire(alloc))?;
+    }
+    Ok(wires)
 }
 
 // The pieces in which source and sink work, and the calls that fail, where they aren't 0.

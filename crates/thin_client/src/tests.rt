@@ -14,7 +14,6 @@ use thin_form::{Command, read_script};
 use tree_model::Entry;
 
 mod asking;
-mod conversations;
 mod replies;
 mod rows;
 

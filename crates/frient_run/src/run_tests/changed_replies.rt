@@ -1,33 +1,8 @@
-use super::forged::{FORGED_OP, REPLY_FRONT, REPORT_FRONT};
-use super::{FIRST_LEAF, SCRIPT, no_wire, replacing, reply_at, run_script};
+use super::{Came, FIRST_LEAF, SCRIPT, no_wire, replacing, reply_at, run_script};
 use fr_bytes::{Bytes, NoMemory};
 use fr_edges::{Carried, MemWire};
 use std::alloc::Global;
 use std::test::Fail;
-
-fn forged_reply(alloc: Global) -> Result<Bytes, Fail> {
-    let mut reply = hex::decode(alloc, REPLY_FRONT)?;
-    let op = hex::decode(alloc, FORGED_OP)?;
-    reply.extend_from_slice(op.as_slice())?;
-    Ok(Bytes::of(reply))
-}
-
-fn forged_report(alloc: Global) -> Result<Bytes, NoMemory> {
-    let mut report = REPORT_FRONT.to_vec(alloc)?;
-    report.extend_from_slice(FORGED_OP.as_bytes())?;
-    report.extend_from_slice(b"\nstatus 5\n")?;
-    Ok(Bytes::of(report))
-}
-
-#[test]
-fn an_operation_that_its_author_never_signed_is_forged(rt: HostRuntime) -> Result<(), Fail> {
-    let alloc = rt.alloc();
-    let first = replacing(alloc, 2, forged_reply(alloc)?)?;
-    let came = run_script(&rt, alloc, SCRIPT, first)?;
-    assert_eq!(rt; came.written.as_slice(), forged_report(alloc)?.as_slice());
-    assert_eq!(rt; came.ended.status, 5);
-    Ok(())
-}
 
 // What is delivered in place of a reply.
 #[derive(Clone, Copy, Debug)]
@@ -147,13 +122,18 @@ fn changed(
 }
 
 // Whether the report has the line, a sound audit and the status 1.
-fn tells_failure(report: &[u8], line: &str) -> bool {
+fn tells(report: &[u8], line: &str) -> bool {
     match str::from_utf8(report) {
         Ok(report) => {
             report.contains(line) && report.contains("\nsound ") && report.ends_with("\nstatus 1\n")
         }
         Err(_) => false,
     }
+}
+
+// Whether the run ended with the status 1 and a sound audit, and its report has the line.
+fn is_failed(came: &Came, line: &str) -> bool {
+    came.ended.status == 1 && tells(came.written.as_slice(), line)
 }
 
 #[test]
@@ -165,67 +145,27 @@ fn a_changed_reply_is_rejected(rt: HostRuntime) -> Result<(), Fail> {
         let reply = changed(alloc, honest.carried(), other.carried(), *number, *change)?;
         let first = replacing(alloc, number.wrapping_add(1), reply)?;
         let came = run_script(&rt, alloc, SCRIPT, first)?;
-        assert_eq!(rt; came.ended.status, 1);
-        assert!(rt; tells_failure(came.written.as_slice(), line), "{line:?}");
+        assert!(rt; is_failed(&came, line), "{line:?}");
     }
     Ok(())
 }
+
+/// The number of an exchange of `SCRIPT` that is lost, from 1, and a line that tells so. What the first one
+/// asked the wall has done nevertheless.
+const LOSSES: &[(u32, &str)] = &[
+    (1, "p1 s1 c1 user 1 wall 1 admit: lost\n"),
+    (1, "p2 s1 c1 user 2 wall 1 read: accepted size 1 from 0\n"),
+    (3, "p2 s1 c2 user 2 wall 1 post: lost\n"),
+    (6, "p5 s1 c1 user 1 wall 1 read: lost\n"),
+];
 
 #[test]
 fn a_lost_exchange_is_told(rt: HostRuntime) -> Result<(), Fail> {
     let alloc = rt.alloc();
-    let first = MemWire::new(alloc, Vec::new(alloc), [1].to_vec(alloc)?);
-    let came = run_script(&rt, alloc, SCRIPT, first)?;
-    assert_eq!(rt; came.ended.status, 1);
-    let report = came.written.as_slice();
-    assert!(rt; tells_failure(report, "p1 s1 c1 user 1 wall 1 admit: lost\n"));
-    // the wall has taken the operation nevertheless
-    assert!(rt;
-        tells_failure(
-            report,
-            "p2 s1 c1 user 2 wall 1 read: accepted size 1 from 0\n"
-        )
-    );
-    Ok(())
-}
-
-/// User 2 is let in again, and posts nothing since.
-const READMISSION: &[u8] = b"1 admit 2 writer
-2 read
-2 post a
-1 remove 2
-1 admit 2 writer
-1 read
-";
-
-// The last reply of that script with the post once more at its end.
-fn replayed(alloc: Global, honest: &[Carried]) -> Result<Bytes, NoMemory> {
-    let mut reply = b"\x11\0\0\0\x05".to_vec(alloc)?;
-    let first = reply_at(honest, 1);
-    for part in [
-        reply_at(honest, 5).get(5..),
-        reply_at(honest, 2).get(first.len()..),
-    ] {
-        if let Some(leaves) = part {
-            reply.extend_from_slice(leaves)?;
-        }
+    for (number, line) in LOSSES {
+        let first = MemWire::new(alloc, Vec::new(alloc), [*number].to_vec(alloc)?);
+        let came = run_script(&rt, alloc, SCRIPT, first)?;
+        assert!(rt; is_failed(&came, line), "{line:?}");
     }
-    Ok(Bytes::of(reply))
-}
-
-#[test]
-fn a_post_is_not_taken_again_after_a_readmission(rt: HostRuntime) -> Result<(), Fail> {
-    let alloc = rt.alloc();
-    let honest = run_script(&rt, alloc, READMISSION, no_wire(alloc))?;
-    assert_eq!(rt; honest.ended.status, 0);
-    let first = replacing(alloc, 6, replayed(alloc, honest.carried())?)?;
-    let came = run_script(&rt, alloc, READMISSION, first)?;
-    assert_eq!(rt; came.ended.status, 1);
-    assert!(rt;
-        tells_failure(
-            came.written.as_slice(),
-            "p3 s1 c3 user 1 wall 1 read: rejected StaleEpoch at 4 now 3\n"
-        )
-    );
     Ok(())
 }

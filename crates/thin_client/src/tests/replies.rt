@@ -1,4 +1,3 @@
-use super::conversations::{hall_of, serve};
 use super::{client_of, entry, had_by, known_of, op_bytes, sent};
 use crate::{Client, Judgement, judge};
 use fr_bytes::Bytes;
@@ -158,7 +157,7 @@ fn unlawful(at: u64, refusal: LawRefusal) -> Verdict {
 
 const LOOK: &[u8] = &[1];
 
-// How many fronts of a reply are garbled.
+// How many fronts of these bytes are garbled, all of them among them.
 fn garbled_fronts(
     alloc: Global,
     known: &Known,
@@ -166,7 +165,7 @@ fn garbled_fronts(
     whole: &[u8],
 ) -> Result<usize, Fail> {
     let mut count = 0usize;
-    for cut in 0..whole.len() {
+    for cut in 0..=whole.len() {
         let front = Bytes::of(whole[..cut].to_vec(alloc)?);
         let end = end_of(alloc, known, client, LOOK, Some(&front))?;
         if end == CommandEnd::Rejected(Verdict::Garbled) {
@@ -293,10 +292,17 @@ fn replies_are_judged_in_order(rt: HostRuntime) -> Result<(), Fail> {
         let end = answered(alloc, &mut scene, is_writer, is_sent, letters)?;
         assert_eq!(rt; end, CommandEnd::Rejected(want));
     }
-    let none = answered(alloc, &mut scene, false, false, b"")?;
-    assert_eq!(rt; none, CommandEnd::Same { size: 0 });
-    let same = answered(alloc, &mut scene, true, false, b"a")?;
-    assert_eq!(rt; same, CommandEnd::Same { size: 1 });
+    Ok(())
+}
+
+#[test]
+fn replies_without_news_are_the_same(rt: HostRuntime) -> Result<(), Fail> {
+    let alloc = rt.alloc();
+    let mut scene = set_scene(alloc)?;
+    for (is_writer, letters, size) in [(false, b"".as_slice(), 0), (true, b"a", 1)] {
+        let end = answered(alloc, &mut scene, is_writer, false, letters)?;
+        assert_eq!(rt; end, CommandEnd::Same { size });
+    }
     Ok(())
 }
 
@@ -312,32 +318,20 @@ fn end_by(
     end_of(alloc, known, client, request, Some(&delivered))
 }
 
-// A request of user 1's first operation, and an honest server's reply.
-fn exchange(alloc: Global, known: &Known, client: &mut Client) -> Result<(Bytes, Bytes), Fail> {
-    let request = sent(alloc, known, client, b"1 post hi\n")?;
-    let mut hall = hall_of(alloc, known)?;
-    let whole = serve(alloc, &mut hall, request.as_slice())?;
-    Ok((request, whole))
-}
-
 #[test]
 fn a_part_of_a_reply_and_more_than_a_reply_are_garbled(rt: HostRuntime) -> Result<(), Fail> {
     let alloc = rt.alloc();
-    let known = known_of(alloc)?;
-    let mut client = client_of(alloc, &known, 1)?;
-    let (request, whole) = exchange(alloc, &known, &mut client)?;
-    let fronts = garbled_fronts(alloc, &known, &mut client, whole.as_slice())?;
-    assert_eq!(rt; fronts, whole.len());
-    let mut longer = whole.as_slice().to_vec(alloc)?;
-    longer.push(0)?;
-    let end = end_by(alloc, &known, &mut client, LOOK, &longer)?;
-    assert_eq!(rt; end, CommandEnd::Rejected(Verdict::Garbled));
-    let heard = client.hear::<Sha>(alloc, &known, request.as_slice(), Some(&whole))?;
-    assert_eq!(rt; heard.end, CommandEnd::Accepted { size: 1, from: 0 });
-    assert_eq!(rt;
-        (client.side.have, client.took.len(), client.signed.len()),
-        (1, 1, 1)
-    );
+    let Scene {
+        known,
+        mut writer,
+        texts,
+        ..
+    } = set_scene(alloc)?;
+    let mut bytes = reply(alloc, &texts, b"a")?.into_vec();
+    bytes.push(0)?;
+    let fronts = garbled_fronts(alloc, &known, &mut writer, &bytes)?;
+    // each but the whole reply, and the one that is longer
+    assert_eq!(rt; fronts, bytes.len());
     Ok(())
 }
 
