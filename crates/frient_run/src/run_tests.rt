@@ -61,7 +61,7 @@ fn wires(alloc: Global, first: MemWire) -> Result<Vec<MemWire>, NoMemory>
 {
     let mut wires = Vec::new(alloc);
     wires.push(first)?;
-    for _ in 0..15 {
+    for _ in 0..15usize {
         wires.push(no_wire(alloc))?;
     }
     Ok(wires)
