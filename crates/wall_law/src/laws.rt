@@ -37,8 +37,8 @@ pub fn positions()
     ensures { (d : Digest) (s : State) (root_at : ℕ → Option Text) (list_after : Text) (wall k : ℕ) (leaf : Leaf)
         → list_after ≡ dict d (after s leaf.op).entries
         → PositionPasses (told_of d s) (entry_of s.entries leaf.op.author)
-            (option_and_then (λ (user : ℕ). entry_of s.entries user) (changed_user leaf.op.kind))
-            list_after root_at wall k leaf
+        (option_and_then (λ (user : ℕ). entry_of s.entries user) (changed_user leaf.op.kind))
+        list_after root_at wall k leaf
         → (law s wall k leaf.op ≡ None) × (told leaf ≡ told_of d (after s leaf.op)) }
 {}
 
