@@ -1,5 +1,8 @@
+use thiserror::Error;
+
 /// A read or a write failed. The count of faults of the source or sink has then risen.
-#[derive(Clone, Copy, Debug, PartialEq, Eq)]
+#[derive(Clone, Copy, Debug, PartialEq, Eq, Error)]
+#[error("a read or a write failed")]
 pub struct Failed;
 
 /// Where bytes come from.

@@ -3,13 +3,16 @@ ghost use Rattle.fr_edges.specs.Wire.{Delivers, straight_view};
 
 use fr_bytes::{Bytes, NoMemory};
 use std::alloc::{AllocError, AllocFailed, Global};
+use thiserror::Error;
 
 /// Why a carry delivered nothing that may be read.
-#[derive(Clone, Copy, Debug, PartialEq, Eq)]
+#[derive(Clone, Copy, Debug, PartialEq, Eq, Error)]
 pub enum CarryEnd {
     /// The request or its reply was lost. The wire's count of faults has then risen.
+    #[error("the request or its reply was lost")]
     Lost,
     /// An allocation was refused.
+    #[error("an allocation was refused")]
     NoMemory,
 }
 

@@ -37,8 +37,10 @@ fn sign_message(alloc: Global, signer: &mut Signer, op: &Op) -> Result<Bytes, Si
     let Ok(message) = op_message(alloc, op) else {
         return Err(SignRefusal::NoMemory);
     };
+    // It brings to the proof that no more leaves are used than there are.
     signer.left();
     let sig = signer.sign(message.as_slice())?;
+    // And this, that a signature's elements are bytes.
     laws::slices_of_bytes(sig.as_slice());
     Ok(sig)
 }
