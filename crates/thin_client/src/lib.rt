@@ -10,8 +10,6 @@ mod judgement;
 mod judging;
 pub mod laws;
 mod side;
-#[cfg(test)]
-mod tests;
 
 pub use asking::Asked;
 pub use client::Client;

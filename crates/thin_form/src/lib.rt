@@ -13,10 +13,3 @@ pub use outcome::{
     AuditLine, Cause, CommandEnd, Decline, Outcome, Place, Shown, ShownKind, Verb, Verdict, WallEnd,
 };
 pub use thin_script::{Command, Line, read_script};
-
-#[cfg(test)]
-mod message_tests;
-#[cfg(test)]
-mod report_tests;
-#[cfg(test)]
-mod thin_script_tests;

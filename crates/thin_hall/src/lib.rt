@@ -5,8 +5,6 @@
 mod ask;
 mod hall;
 pub mod laws;
-#[cfg(test)]
-mod tests;
 
 pub use ask::{Answer, Ask, Cause};
 pub use hall::Hall;
