@@ -1,0 +1,5 @@
+pub mod Histories
+pub mod Opening
+pub mod Nodes
+pub mod Law
+pub mod Runs

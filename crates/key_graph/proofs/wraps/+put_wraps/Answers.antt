@@ -1,0 +1,42 @@
+use Rattle.std.proofs.Common.{◌≡◌, ◌-◌, ◌*◌, ◌/◌, ◌^◌, ◌<◌, ◌≤◌, Some, None, reverse, sym, ◌∙◌, arith}
+use Rattle.std.specs.Prelude.{if◌then◌else◌}
+use Rattle.std.proofs.Math.Pow.{pow_mono}
+use Rattle.key_graph.specs.KeyTree.{has_member, key_at}
+use Rattle.key_graph.proofs.Histories.{pow_step, key_above, first_above, others_above}
+use Rattle.key_graph.proofs.wraps.+put_wraps.Goals as goal
+use Rattle.key_graph.proofs.wraps.+put_wraps.Goals.{then-has_member, else-has_member}
+
+pub put_wrap-requires-clause-child : goal.put_wrap-requires-clause-child
+put_wrap-requires-clause-child t c = let h : 2 ^ c.args.setting.now.depth ≤ 2 ^ 6 = pow_mono c.requires.depth.0 in omega arith
+
+pub put_wrap-requires-2-clause-child : goal.put_wrap-requires-2-clause-child
+put_wrap-requires-2-clause-child t c = let h : 2 ^ c.args.setting.now.depth ≤ 2 ^ 6 = pow_mono c.requires.depth.0 in omega arith
+
+pub put_wraps-requires : goal.put_wraps-requires
+put_wraps-requires t c =
+    let positive : 0 < c.args.levels = omega arith in
+    let step : 2 ^ c.args.levels ≡ 2 * 2 ^ (c.args.levels - 1) = pow_step c.args.levels positive in
+    let cs = reverse c.args.changes.now in
+    let above : c.if-has_member.above ≡ (if has_member c.args.setting.now.depth cs (c.args.n / 2) then Some c.inner_key-new.result else None) =
+    elim c.if-has_member.branch [
+      | then-has_member w ↦ rw (sym c.has_member.ensures ∙ w.if-has_member.true) w.above-is
+      | else-has_member w ↦ rw (sym c.has_member.ensures ∙ w.if-has_member.false) w.above-is
+    ] in
+    let key : c.if-has_member.above ≡ key_at c.args.setting.now cs (c.args.n / 2) =
+    above ∙ sym (key_above c.args.setting.now cs c.args.gen_ (c.args.n / 2) c.inner_key-new.result (omega arith)
+    (c.requires.newest (c.args.n / 2) (first_above c.args.levels c.args.n positive)) c.inner_key-new.ensures) in (
+      omega arith,
+      (
+        (c.requires.depth.0, omega arith),
+        (
+          omega arith,
+          (
+            omega arith,
+            (
+              key,
+              λ x h. c.requires.newest x (others_above c.args.levels c.args.n x positive h),
+            ),
+          ),
+        ),
+      ),
+    )
