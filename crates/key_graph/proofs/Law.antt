@@ -52,7 +52,7 @@ later_cons (Some z) ys y a = inr a
 abbrev pub IsChild : ℕ → ℕ → Type 0
 IsChild x y = (y ≡ 2 * x) ⊎ (y ≡ 2 * x + 1)
 
-child_half : (x y : ℕ) → IsChild x y → y / 2 ≡ x
+pub child_half : (x y : ℕ) → IsChild x y → y / 2 ≡ x
 child_half x y (inl e) = omega arith
 child_half x y (inr e) = omega arith
 
@@ -98,10 +98,10 @@ name_at setting cs y =
     then Some (inner y (generation setting.depth cs y))
     else option_map (λ (member : Member). leaf member.user) (holder cs (y - 2 ^ setting.depth))
 
-low : (y n : ℕ) → y < n → nat_lt y n ≡ true
+pub low : (y n : ℕ) → y < n → nat_lt y n ≡ true
 low y n h = lt-ltb y n h
 
-high : (y n : ℕ) → n ≤ y → nat_lt y n ≡ false
+pub high : (y n : ℕ) → n ≤ y → nat_lt y n ≡ false
 high y n h = le-ltb y n h
 
 same_branch : (b : Bool) (f : ℕ → Option KeyName) (g : ℕ) (m : Option KeyName) → (if b then f (if b then g else 0) else m) ≡ (if b then f g else m)
@@ -124,7 +124,7 @@ only_some : {X Y : Type 0} (f : X → Y) (o : Option X) (y : Y) → option_map f
 only_some f None y e = absurd (cc)
 only_some f (Some x) y e = (x, refl)
 
-below_or_at : (n y : ℕ) → (y < n) ⊎ (n ≤ y)
+pub below_or_at : (n y : ℕ) → (y < n) ⊎ (n ≤ y)
 below_or_at n y = cases_lt y n
 
 -- what the key of a node tells: it has a member below it
@@ -143,7 +143,7 @@ key-slot setting cs y key h e =
     only_some (λ (member : Member). member.leaf) (holder cs (y - 2 ^ setting.depth)) key f
 
 -- and where it has a member below it, it has a key
-has-key : (setting : Setting) (cs : List Change) (y s : ℕ) (member : Member) → s < 2 ^ setting.depth → holder cs s ≡ Some member → is_below setting.depth y s ≡ true
+pub has-key : (setting : Setting) (cs : List Change) (y s : ℕ) (member : Member) → s < 2 ^ setting.depth → holder cs s ≡ Some member → is_below setting.depth y s ≡ true
     → (key : Text) × (key_at setting cs y ≡ Some key)
 unfolding key_at
 has-key setting cs y s member h e b =
@@ -167,20 +167,20 @@ abbrev pub Apart : List Plan → Type 0
 Apart ps = (p q : Plan) → Among p ps → Among q ps → p.change.generation ≡ q.change.generation → p ≡ q
 
 -- a change leaves another slot to its holder
-holder-other : (c : Change) (cs : List Change) (s : ℕ) → nat_eq c.slot s ≡ false → holder (c ∷ cs) s ≡ holder cs s
+pub holder-other : (c : Change) (cs : List Change) (s : ℕ) → nat_eq c.slot s ≡ false → holder (c ∷ cs) s ≡ holder cs s
 holder-other c cs s e = rw e refl
 
 -- a node that isn't above the change's slot has slots of others below it
-apart_slots : (t x : ℕ) (c : Change) (s : ℕ) → is_below t x c.slot ≡ false → is_below t x s ≡ true → nat_eq c.slot s ≡ false
+pub apart_slots : (t x : ℕ) (c : Change) (s : ℕ) → is_below t x c.slot ≡ false → is_below t x s ≡ true → nat_eq c.slot s ≡ false
 apart_slots t x c s n b = elim (eqb_tells c.slot s) [
   | inl e ↦ absurd (false≢true (sym n ∙ (ap (is_below t x) e.1 ∙ b)))
   | inr e ↦ e.0
 ]
 
-generation-kept : (t : ℕ) (c : Change) (cs : List Change) (x : ℕ) → is_below t x c.slot ≡ false → generation t (c ∷ cs) x ≡ generation t cs x
+pub generation-kept : (t : ℕ) (c : Change) (cs : List Change) (x : ℕ) → is_below t x c.slot ≡ false → generation t (c ∷ cs) x ≡ generation t cs x
 generation-kept t c cs x e = rw e refl
 
-generation-new : (t : ℕ) (c : Change) (cs : List Change) (x : ℕ) → is_below t x c.slot ≡ true → generation t (c ∷ cs) x ≡ c.generation
+pub generation-new : (t : ℕ) (c : Change) (cs : List Change) (x : ℕ) → is_below t x c.slot ≡ true → generation t (c ∷ cs) x ≡ c.generation
 generation-new t c cs x e = rw e refl
 
 pub held_some : (u : ℕ) (o : Option Member) → is_held (Some u) o ≡ true → (member : Member) × (o ≡ Some member) × (member.user ≡ u)

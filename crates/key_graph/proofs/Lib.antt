@@ -3,3 +3,4 @@ pub mod Opening
 pub mod Nodes
 pub mod Law
 pub mod Runs
+pub mod Books

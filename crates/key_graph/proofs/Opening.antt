@@ -15,7 +15,7 @@ use Rattle.key_graph.specs.KeyBook.{Keys, with_key, with_opened, child_key, open
 use Rattle.key_graph.specs.NodeKeys.{key_in}
 use Rattle.key_graph.specs.Held.{in_place, keys_of}
 
-and_false : (b : Bool) → (b && false) ≡ false
+pub and_false : (b : Bool) → (b && false) ≡ false
 and_false true = refl
 and_false false = refl
 
@@ -23,7 +23,7 @@ and_true : (b : Bool) → (b && true) ≡ b
 and_true true = refl
 and_true false = refl
 
-flipped : (g h : ℕ) → (h ≡ g → ⊥) → nat_eq g h ≡ false
+pub flipped : (g h : ℕ) → (h ≡ g → ⊥) → nat_eq g h ≡ false
 flipped g h n = elim (eqb_tells g h) [ inl e ↦ absurd (n (sym e.1)) | inr e ↦ e.0 ]
 
 -- a key of another generation stays

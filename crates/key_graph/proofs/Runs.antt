@@ -229,26 +229,27 @@ length-generations : (cs : List Change) → length (generations cs) ≡ length c
 length-generations [] = refl
 length-generations (c ∷ cs) = simp (length-append, length-generations cs) (omega arith)
 
--- the change that began an epoch, and those before it
-pub begun : (t : ℕ) (ps : List Plan) (cs : List Change) → Closed t ps cs → (e g : ℕ) → slice_get (generations cs) e ≡ Some g
-    → (c : Change) × (before : List Change) × (changes_at (suc e) cs ≡ c ∷ before) × (c.generation ≡ g) × Closed t ps (c ∷ before)
-begun t ps [] closed e g h = absurd (cc)
-begun t ps (c ∷ cs) closed e g h =
+-- the change that began an epoch, and those before it, of which holds what holds of each end of the list
+pub begun : (P : List Change → Type 0) (end : (c : Change) (cs : List Change) → P (c ∷ cs) → P cs) (cs : List Change) → P cs
+    → (e g : ℕ) → slice_get (generations cs) e ≡ Some g
+    → (c : Change) × (before : List Change) × (changes_at (suc e) cs ≡ c ∷ before) × (c.generation ≡ g) × P (c ∷ before)
+begun P end [] holds e g h = absurd (cc)
+begun P end (c ∷ cs) holds e g h =
     let n = length-generations cs in
     elim (at_snoc (generations cs) c.generation e g h) [
-      | inl r ↦ (let b = begun t ps cs closed.2 e g r.1 in
+      | inl r ↦ (let b = begun P end cs (end c cs holds) e g r.1 in
           let d : suc (length cs) - suc e ≡ suc (length cs - suc e) = (let l = r.0 in omega arith) in
           (b.0, b.1, (rw d b.2), b.3, b.4))
       | inr r ↦ (let d : suc (length cs) - suc e ≡ 0 = (let l = r.0 in omega arith) in
-          (c, cs, (rw d refl), r.1, closed))
+          (c, cs, (rw d refl), r.1, holds))
     ]
 
 -- ---- who reaches the root keys
 
-none_held : (t u : ℕ) → IsMember t [] u → ⊥
+pub none_held : (t u : ℕ) → IsMember t [] u → ⊥
 none_held t u m = false≢true m.1.held
 
-start : (cs : List Change) → changes_at 0 cs ≡ []
+pub start : (cs : List Change) → changes_at 0 cs ≡ []
 start cs = let e : length cs - 0 ≡ length cs = omega arith in rw e (drop-length cs)
 
 pub roots : (setting : Setting) (es : List Event) (e g u : ℕ) → IsRun setting es → 1 ≤ setting.depth → root_generation (generations (followed es)) e ≡ Some g
@@ -262,7 +263,7 @@ roots setting es zero g u run deep h =
 roots setting es (suc e) g u run deep h =
     let t = setting.depth in
     let f = facts setting es run in
-    let b = begun t (plans es) (followed es) f.closed e g h in
+    let b = begun (Closed t (plans es)) (λ d cs closed. closed.2) (followed es) f.closed e g h in
     let p : Plan = record { change = b.0; before = b.1 } in
     let top : (s : ℕ) → s < 2 ^ t → Above t (slot_node t s) 1 = λ s w. nodes.root t (slot_node t s) deep (omega arith) (omega arith) in
     let law = reach setting es p 1 u run b.4.0 (top b.0.slot b.4.1) in (

@@ -1,6 +1,9 @@
 //! The laws of key trees and books. Each function has an empty body, and its contract is the law.
 
-ghost use Rattle.key_graph.specs.KeyTree.{Plan, after, ancestors, followed_by, root_generation, slot_node};
+ghost use Rattle.fr_bytes.specs.Bytes.{Text};
+ghost use Rattle.key_graph.specs.KeyBook.{book_root};
+ghost use Rattle.key_graph.specs.KeyTree.{Plan, after, ancestors, followed_by, root_generation, slot_node, tree_root};
+ghost use Rattle.key_graph.specs.Learning.{HasLeaf, book_after};
 ghost use Rattle.key_graph.specs.Reach.{Among, Event, HasSlotBelow, IsMember, IsRun, Reach, changes_at, follow, followed, inner, plans, tree_of};
 ghost use Rattle.key_graph.specs.declared.change.Change.{Change};
 ghost use Rattle.key_graph.specs.declared.change.Setting.{Setting};
@@ -23,4 +26,11 @@ pub fn roots()
 /// A change that is followed in a key run fits, and the tree is then the run's.
 pub fn runs()
     ensures { (setting : Setting) (c : Change) (es : List Event) → IsRun setting (follow c ∷ es) → followed_by (tree_of setting es) c ≡ (true, tree_of setting (follow c ∷ es)) }
+{}
+
+/// What a book holds. One that learnt the followed changes of a key run, with the leaf key that the user was admitted
+/// with, gives the root key of an epoch exactly where the user is a member after the epoch's changes, and then the
+/// tree's.
+pub fn books()
+    ensures { (setting : Setting) (es : List Event) (role : Change → ℕ) (u : ℕ) (leaf : Text) (e : ℕ) (key : Text) → IsRun setting es → 1 ≤ setting.depth → HasLeaf u leaf (followed es) → (book_root (book_after setting role u leaf (followed es)) e ≡ Some key) ↔ IsMember setting.depth (changes_at e (followed es)) u × (tree_root (tree_of setting es) e ≡ Some key) }
 {}
