@@ -5,6 +5,8 @@
 mod closings;
 mod meetings;
 mod seats;
+#[cfg(test)]
+mod tests;
 
 pub use closings::{close_users, turns_end};
 pub use meetings::meet_users;
