@@ -29,8 +29,8 @@ pub fn meet_users<T: Turned>(gates: &[Gate<T>], users: &mut Vec<Seats<T>>)
     let Some(mut hub) = users.pop() else {
         unreachable!()
     };
-    meet_others(gates, &mut hub, users);
-    meet_others(gates, &mut hub, users);
+    meet_others(gates, &mut hub, users); // The hub is told of all that was seen,
+    meet_others(gates, &mut hub, users); // and tells of it.
     users.push_reserved(hub);
 }
 
