@@ -213,3 +213,6 @@ shown_at-only zero l k above = absurd (omega arith)
 shown_at-only (suc j) l k above = let below : suc j - 1 ≡ j = omega arith in rw below refl
 
 pub ruleset shown_steps = (tree_views, shown_at-hidden, shown_at-leaf_low, shown_at-leaf_high, shown_at-node_low, shown_at-single_low, shown_at-left, shown_at-right, shown_at-only)
+
+pub ruleset cut_steps = (tree_views, cut_at-whole, cut_at-low, cut_at-hidden, cut_at-leaf, cut_at-left, cut_at-right, cut_at-only)
+pub ruleset cut_in_steps = (tree_views, cut_in-low, cut_in-here, cut_in-node, cut_in-hidden, cut_in-leaf, cut_in-single)

@@ -1,2 +1,4 @@
 pub mod Views
 pub mod Halving
+pub mod Marking
+pub mod Tags

@@ -72,6 +72,7 @@ fn node_of(
 }
 
 /// The tree of the first `v` positions of a tree of height `level` over `size`.
+#[tactic(auto, using(crate::proofs::Halving::cut_steps))]
 fn cut_at(
     alloc: Global,
     p: &Pruned,
@@ -108,6 +109,7 @@ fn cut_at(
 }
 
 /// The tree of the first `v` positions of a tree of height `level` over `size`, at their own height.
+#[tactic(auto, using(crate::proofs::Halving::cut_in_steps))]
 fn cut_in(
     alloc: Global,
     p: &Pruned,
@@ -127,13 +129,14 @@ fn cut_in(
     }
     match p {
         Pruned::Node(left, _) => cut_in(alloc, left, level - 1, middle, v),
-        _ => Ok(None),
+        Pruned::Hidden(_) | Pruned::Leaf(_) | Pruned::Single(_) => Ok(None),
     }
 }
 
 /// The pruned tree of the first `v` leaves of a pruned tree of `size` leaves: `None` exactly where `p` isn't a
 /// pruned tree of this size, `v` is 0 or past the size, or version `v` ends within a hidden part. What it keeps
 /// of `p` is copied.
+#[tactic(auto, unfolding(crate::specs::Pruned::cut))]
 pub fn cut(
     alloc: Global,
     p: &Pruned,

@@ -9,6 +9,7 @@ use crate::sizes::{fits, half};
 use tree_model::depth_of;
 
 /// The text at position `k` of a tree of height `level`, where it is shown.
+#[tactic(auto, using(crate::proofs::Halving::shown_steps))]
 fn text_at(p: &Pruned, level: u32, k: u64) -> Option<&[u8]>
     requires levels { level ≤ 64 }
     ensures { option_map (λ t. t.now) result ≡ shown_at level (tree_view p.now) k }
@@ -42,6 +43,7 @@ fn text_at(p: &Pruned, level: u32, k: u64) -> Option<&[u8]>
 }
 
 /// The text at position `k` of a pruned tree that fits its size.
+#[tactic(auto, unfolding(crate::specs::Shown::shown))]
 pub(crate) fn fitting_leaf(p: &Pruned, size: u64, k: u64) -> Option<&[u8]>
     requires { fits (tree_view p.now) size ≡ true }
     ensures { option_map (λ t. t.now) result ≡ shown (tree_view p.now) size k }
@@ -54,6 +56,7 @@ pub(crate) fn fitting_leaf(p: &Pruned, size: u64, k: u64) -> Option<&[u8]>
 
 /// The text at position `k`, counted from 0, of a pruned tree of `size` leaves: `Some` exactly where `p` is one
 /// and shows the position. Takes no memory.
+#[tactic(auto, unfolding(crate::specs::Shown::shown))]
 pub fn leaf_at(p: &Pruned, size: u64, k: u64) -> Option<&[u8]>
     ensures { option_map (λ t. t.now) result ≡ shown (tree_view p.now) size k }
 {

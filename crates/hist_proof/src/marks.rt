@@ -33,7 +33,9 @@ impl Marks {
     {
         match self {
             Marks::Node(_, left, right) => (left, right),
-            _ => (self, self),
+            Marks::Absent => (self, self),
+            Marks::Leaf(_) => (self, self),
+            Marks::Single(_, _) => (self, self),
         }
     }
 
@@ -44,7 +46,9 @@ impl Marks {
     {
         match self {
             Marks::Single(_, left) => left,
-            _ => self,
+            Marks::Absent => self,
+            Marks::Leaf(_) => self,
+            Marks::Node(_, _, _) => self,
         }
     }
 }
@@ -63,6 +67,7 @@ fn digest<D: Digester>(p: &Pruned) -> Dig
 }
 
 /// The digest of what a pruned tree stands for. Nothing is hashed where its digests are kept.
+#[tactic(auto, using(crate::proofs::Marking::marking))]
 pub(crate) fn digest_with<D: Digester>(p: &Pruned, marks: &Marks) -> Dig
     requires { IsMarked D.digest_of (marks_view marks.now) (tree_view p.now) }
     ensures { result ≡ digest_of D.digest_of (tree_view p.now) }

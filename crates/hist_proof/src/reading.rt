@@ -53,6 +53,7 @@ fn leaf_at(alloc: Global, cur: &mut Cur<'_>) -> Result<Pruned, ReadRefusal>
 }
 
 /// A pruned tree of no more than `levels` levels of nodes.
+#[tactic(auto, using(crate::proofs::Tags::read_steps))]
 fn tree_at(alloc: Global, cur: &mut Cur<'_>, levels: u32) -> Result<Pruned, ReadRefusal>
     ensures { Gives tree_view result cur.new (tree_at levels cur.old) }
 {
@@ -79,6 +80,7 @@ fn tree_at(alloc: Global, cur: &mut Cur<'_>, levels: u32) -> Result<Pruned, Read
     }
 }
 
+#[tactic(auto, unfolding(crate::specs::Spelling::pruned_at))]
 fn whole_tree(alloc: Global, bytes: &[u8]) -> Result<Pruned, ReadRefusal>
     ensures { GivesAll tree_view result (all_of pruned_at bytes.now) }
 {

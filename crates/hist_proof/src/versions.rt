@@ -32,6 +32,7 @@ fn node_digest<D: Digester>(left: &Dig, right: Option<Dig>) -> Option<Dig>
 }
 
 /// The digest of the first `v` positions of a tree of height `level` over `size`.
+#[tactic(auto, using(crate::proofs::Halving::cut_steps, crate::proofs::Marking::mapped))]
 fn digest_short<D: Digester>(
     p: &Pruned,
     marks: &Marks,
@@ -68,6 +69,7 @@ fn digest_short<D: Digester>(
 }
 
 /// The digest of the first `v` positions of a tree of height `level` over `size`, at their own height.
+#[tactic(auto, using(crate::proofs::Halving::cut_in_steps))]
 fn digest_in<D: Digester>(
     p: &Pruned,
     marks: &Marks,
@@ -87,12 +89,16 @@ fn digest_in<D: Digester>(
         return digest_short::<D>(p, marks, level, size, v);
     }
     match p {
-        Pruned::Node(left, _) => digest_in::<D>(left, marks.halves().0, level - 1, middle, v),
-        _ => None,
+        Pruned::Node(left, _) => {
+            let (a, _) = marks.halves();
+            digest_in::<D>(left, a, level - 1, middle, v)
+        }
+        Pruned::Hidden(_) | Pruned::Leaf(_) | Pruned::Single(_) => None,
     }
 }
 
 /// The root of version `v` of a tree that fits its size.
+#[tactic(auto, unfolding(crate::specs::Pruned::at, crate::specs::Pruned::cut))]
 pub(crate) fn version_digest<D: Digester>(
     p: &Pruned,
     marks: &Marks,
@@ -112,6 +118,7 @@ pub(crate) fn version_digest<D: Digester>(
 /// The root of version `v`, from a pruned tree of `size` leaves: `None` exactly where `p` isn't a pruned tree of
 /// this size, `v` is 0 or past the size, or version `v` ends within a hidden part. Each node that it reads is
 /// hashed once, and no memory is taken. [`DigestedTree`](crate::DigestedTree) is for many versions of one tree.
+#[tactic(auto, unfolding(crate::specs::Pruned::at, crate::specs::Pruned::cut))]
 pub fn digest_at<D: Digester>(p: &Pruned, size: u64, v: u64) -> Option<Dig>
     ensures { result ≡ at D.digest_of (tree_view p.now) size v }
 {

@@ -8,6 +8,7 @@ use fr_bytes::{Bytes, NoMemory, put_bytes, put_counted, put_u8};
 use std::alloc::Global;
 
 /// Appends the spelling of `p`.
+#[tactic(auto, using(crate::proofs::Views::tree_views), unfolding(crate::specs::Spelling::HasCounts, crate::specs::Spelling::tree_text))]
 fn put_tree(out: &mut Vec<u8>, p: &Pruned) -> Result<(), NoMemory>
     requires { HasCounts (tree_view p.now) }
     ensures { OnOk result (out.new.items ≡ out.old.items ++ tree_text (tree_view p.now)) }
