@@ -1,0 +1,167 @@
+-- That reading and spelling of pruned trees agree, and what follows of it.
+use Rattle.std.proofs.Common.{◌≡◌, ◌⊎◌, ℕ, zero, suc, ◌<◌, List, [], ◌∷◌, ◌++◌, length, Result, Ok, Err, refl, ap, sym, ◌∙◌, inl, inr, arith, lit<}
+use Rattle.std.specs.Prelude.{IfOk, IsErrOf}
+use Rattle.fr_bytes.specs.declared.refusals.ReadRefusal.{ReadRefusal}
+use Rattle.fr_bytes.specs.declared.refusals.ReadRefusal.TheVariants as refusals
+use Rattle.fr_bytes.specs.Bytes.{IsBytes, Text}
+use Rattle.fr_bytes.specs.Reading.{GivesAll, Reader, all_of}
+use Rattle.fr_bytes.specs.Format.{IsExact, format}
+use Rattle.fr_bytes.specs.Parts.{HasTag, both, limited, piece}
+use Rattle.fr_bytes.proofs.Formats.{all_again, all_found, exact_both, exact_piece, unique}
+use Rattle.fr_bytes.proofs.Formats.{exact_as}
+use Rattle.fr_bytes.proofs.Parts.{exact_limited, exact_never, exact_tagged, exact_told}
+use Rattle.fr_digest.specs.Digest.{digest_bytes}
+use Rattle.hist_proof.specs.declared.pruned.Pruned.{Pruned}
+use Rattle.hist_proof.specs.declared.limits.TheConstants.{HIDDEN_TAG, LEAF_TAG, NODE_TAG, SINGLE_TAG, LEAF_BYTES_MAX, LEVELS_MAX}
+use Rattle.hist_proof.specs.Pruned.{Tree, hidden, leaf, node, single}
+use Rattle.hist_proof.specs.Shown.{HasDigests}
+use Rattle.hist_proof.specs.Spelling.{HasCounts, IsDig, IsLeveled, IsNone, IsSpelled, IsTop, Spells, behind_at, cases_of, halves, hidden_at, leaf_at, leveled_format, node_at, none_at, pruned_at, pruned_format, rest_text, single_at, tag_of, top_at, tree_at, tree_text}
+use Rattle.hist_proof.specs.View.{tree_view}
+
+-- ---- the tags
+
+tag-below : (p : Tree) → tag_of p < 256
+tag-below (hidden x) = lit< tt
+tag-below (leaf t) = lit< tt
+tag-below (node l r) = lit< tt
+tag-below (single l) = lit< tt
+
+has_tag : (below : Reader Tree) (p : Tree) → HasTag (cases_of below) (tag_of p)
+has_tag below (hidden x) = inl refl
+has_tag below (leaf t) = inr (inl refl)
+has_tag below (node l r) = inr (inr (inl refl))
+has_tag below (single l) = inr (inr (inr (inl refl)))
+
+-- ---- one level of nodes
+
+told : (p : Tree) → tag_of p ∷ rest_text p ≡ tree_text p
+unfolding tree_text
+told (hidden x) = refl
+told (leaf t) = refl
+told (node l r) = refl
+told (single l) = refl
+
+module _ (IsBelow : Tree → Type 0) (below : Reader Tree) where
+  abbrev Tagged : ℕ → Tree → Type 0
+  Tagged tag p = IsTop IsBelow p × (tag_of p ≡ tag)
+
+  of_hidden : (p : Tree) → Tagged HIDDEN_TAG p → (x : Text) × ((length x ≡ digest_bytes) × IsBytes x) × (hidden x ≡ p)
+  of_hidden (hidden x) h = (x, h.0, refl)
+  of_hidden (leaf t) h = absurd cc
+  of_hidden (node l r) h = absurd cc
+  of_hidden (single l) h = absurd cc
+
+  of_leaf : (p : Tree) → Tagged LEAF_TAG p → (t : Text) × ((limited LEAF_BYTES_MAX).fits t) × (leaf t ≡ p)
+  of_leaf (hidden x) h = absurd cc
+  of_leaf (leaf t) h = (t, h.0, refl)
+  of_leaf (node l r) h = absurd cc
+  of_leaf (single l) h = absurd cc
+
+  of_node : (p : Tree) → Tagged NODE_TAG p → (q : Tree × Tree) × (IsBelow q.0 × IsBelow q.1) × (halves q ≡ p)
+  of_node (hidden x) h = absurd cc
+  of_node (leaf t) h = absurd cc
+  of_node (node l r) h = ((l, r), h.0, refl)
+  of_node (single l) h = absurd cc
+
+  of_single : (p : Tree) → Tagged SINGLE_TAG p → (l : Tree) × IsBelow l × (single l ≡ p)
+  of_single (hidden x) h = absurd cc
+  of_single (leaf t) h = absurd cc
+  of_single (node l r) h = absurd cc
+  of_single (single l) h = (l, h.0, refl)
+
+  exact_hidden : IsExact (format (Tagged HIDDEN_TAG) rest_text hidden_at)
+  unfolding hidden_at
+  exact_hidden = exact_as (piece digest_bytes) (Tagged HIDDEN_TAG) rest_text hidden (exact_piece digest_bytes) (λ x h. ((h, refl), refl)) of_hidden
+
+  exact_leaf : IsExact (format (Tagged LEAF_TAG) rest_text leaf_at)
+  unfolding leaf_at
+  exact_leaf = exact_as (limited LEAF_BYTES_MAX) (Tagged LEAF_TAG) rest_text leaf (exact_limited LEAF_BYTES_MAX (lit< tt)) (λ t h. ((h, refl), refl)) of_leaf
+
+  module _ (exact : IsExact (format IsBelow tree_text below)) where
+    exact_node : IsExact (format (Tagged NODE_TAG) rest_text (node_at below))
+    unfolding node_at
+    exact_node =
+        exact_as (both (format IsBelow tree_text below) (λ l. format IsBelow tree_text below)) (Tagged NODE_TAG) rest_text halves
+        (exact_both (format IsBelow tree_text below) (λ l. format IsBelow tree_text below) exact (λ l h. exact))
+        (λ q h. ((h, refl), refl)) of_node
+
+    exact_single : IsExact (format (Tagged SINGLE_TAG) rest_text (single_at below))
+    unfolding single_at
+    exact_single = exact_as (format IsBelow tree_text below) (Tagged SINGLE_TAG) rest_text single exact (λ l h. ((h, refl), refl)) of_single
+
+    exact_tags : IsExact (format (IsTop IsBelow) (λ p. tag_of p ∷ rest_text p) (top_at below))
+    unfolding behind_at
+    exact_tags =
+        exact_tagged (IsTop IsBelow) tag_of rest_text (cases_of below) tag-below
+        (exact_hidden, (exact_leaf, (exact_node, (exact_single, tt)))) (has_tag below)
+
+    exact_top : IsExact (format (IsTop IsBelow) tree_text (top_at below))
+    exact_top =
+        exact_told (format (IsTop IsBelow) (λ p. tag_of p ∷ rest_text p) (top_at below)) (IsTop IsBelow) tree_text exact_tags
+        (λ p h. (h, told p)) (λ p h. h)
+
+-- ---- all levels
+
+pub exact_levels : (levels : ℕ) → IsExact (leveled_format levels)
+unfolding IsLeveled tree_at
+exact_levels zero = exact_top IsNone none_at (exact_never IsNone tree_text (λ p h. h))
+exact_levels (suc levels) = exact_top (IsLeveled levels) (tree_at levels) (exact_levels levels)
+
+pub exact_pruned : IsExact pruned_format
+unfolding IsSpelled pruned_at
+exact_pruned = exact_levels LEVELS_MAX
+
+-- ---- what a reader of all of the bytes answers
+
+pub found_spelled : (bytes : Text) (result : Result Pruned ReadRefusal) → IsBytes bytes → GivesAll tree_view result (all_of pruned_at bytes) → IfOk result (λ p. Spells (tree_view p) bytes)
+found_spelled bytes (Ok p) fits read =
+    let it = all_found pruned_format exact_pruned bytes (tree_view p) fits read in record { is_spelled = it.0; text = it.1 }
+found_spelled bytes (Err e) fits read = tt
+
+pub only_spelled : (bytes : Text) (result : Result Pruned ReadRefusal) → GivesAll tree_view result (all_of pruned_at bytes) → IsErrOf result refusals.NotForm → (p : Tree) → Spells p bytes → ⊥
+only_spelled bytes (Ok x) read none p h = absurd cc
+only_spelled bytes (Err refusals.NotForm) read none p h =
+    let again = all_again pruned_format exact_pruned p h.is_spelled in
+    let e = sym read ∙ ap (all_of pruned_at) h.text ∙ again in cc
+only_spelled bytes (Err refusals.NoMemory) read none p h = cc
+
+-- ---- one spelling
+
+pub one_value : (p q : Tree) (bytes : Text) → Spells p bytes → Spells q bytes → p ≡ q
+one_value p q bytes hp hq =
+    (unique pruned_format exact_pruned p q [] [] hp.is_spelled hq.is_spelled (ap (λ (t : Text). t ++ []) (sym hp.text ∙ hq.text))).0
+
+pub one_text : (p : Tree) (a b : Text) → Spells p a → Spells p b → a ≡ b
+one_text p a b ha hb = ha.text ∙ sym hb.text
+
+-- ---- what has a spelling
+
+counts_leveled : (levels : ℕ) (p : Tree) → IsLeveled levels p → HasCounts p
+unfolding IsLeveled HasCounts
+counts_leveled levels (hidden x) h = tt
+counts_leveled zero (leaf t) h = omega (arith, h.0)
+counts_leveled (suc levels) (leaf t) h = omega (arith, h.0)
+counts_leveled zero (node l r) h = absurd h.0
+counts_leveled (suc levels) (node l r) h = (counts_leveled levels l h.0, counts_leveled levels r h.1)
+counts_leveled zero (single l) h = absurd h
+counts_leveled (suc levels) (single l) h = counts_leveled levels l h
+
+-- each leaf's text can be counted
+pub counts_spelled : (p : Tree) → IsSpelled p → HasCounts p
+unfolding IsSpelled
+counts_spelled p h = counts_leveled LEVELS_MAX p h
+
+digests_leveled : (levels : ℕ) (p : Tree) → IsLeveled levels p → HasDigests p
+unfolding IsLeveled HasDigests
+digests_leveled zero (hidden x) h = h.0
+digests_leveled (suc levels) (hidden x) h = h.0
+digests_leveled levels (leaf t) h = tt
+digests_leveled zero (node l r) h = absurd h.0
+digests_leveled (suc levels) (node l r) h = (digests_leveled levels l h.0, digests_leveled levels r h.1)
+digests_leveled zero (single l) h = absurd h
+digests_leveled (suc levels) (single l) h = digests_leveled levels l h
+
+-- each hidden part has a digest's length
+pub digests_spelled : (p : Tree) → IsSpelled p → HasDigests p
+unfolding IsSpelled
+digests_spelled p h = digests_leveled LEVELS_MAX p h
