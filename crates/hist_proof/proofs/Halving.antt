@@ -2,7 +2,7 @@
 use Rattle.std.proofs.Common.{◌≡◌, ℕ, zero, suc, ◌+◌, ◌-◌, ◌^◌, ◌<◌, ◌≤◌, Bool, true, false, ◌&&◌, List, Option, Some, None, nat_lt, refl, ap, sym, ◌∙◌, arith}
 use Rattle.std.specs.Option.{option_map}
 use Rattle.std.proofs.lemmas.Bool.{lt-ltb, le-ltb}
-use Rattle.hist_proof.specs.Pruned.{Tree, hidden, leaf, node, single, fits_at, cut_at, cut_in}
+use Rattle.hist_proof.specs.Pruned.{Tree, hidden, leaf, node, single, fits_at, cut_at, cut_in, in_left}
 use Rattle.hist_proof.specs.Shown.{shown_at}
 use Rattle.hist_proof.proofs.Views.{tree_views}
 
@@ -131,7 +131,43 @@ cut_at-only zero l n v above more = absurd (omega arith)
 cut_at-only (suc j) l n v above more =
     let below : suc j - 1 ≡ j = omega arith in rw below (cut_at-single j l n v more)
 
+-- what is cut of all positions is the whole
+pub cut_at-all : (j : ℕ) (p : Tree) (n v : ℕ) (c : Tree) → n ≤ v → cut_at j p n v ≡ Some c → p ≡ c
+cut_at-all j p n v c all e = let whole = cut_at-whole j p n v all in cc
+
+-- nothing is cut of a part of one position, or of a hidden one
+pub cut_at-low_not : (p : Tree) (n v : ℕ) (c : Tree) → v < n → cut_at 0 p n v ≡ Some c → ⊥
+cut_at-low_not p n v c more e = let none = cut_at-low 0 p n v refl more in cc
+
+pub cut_at-hidden_not : (j : ℕ) (x : List ℕ) (n v : ℕ) (c : Tree) → v < n → cut_at j (hidden x) n v ≡ Some c → ⊥
+cut_at-hidden_not j x n v c more e = let none = cut_at-hidden j x n v more in cc
+
+pub cut_at-leaf_not : (j : ℕ) (t : List ℕ) (n v : ℕ) (c : Tree) → v < n → cut_at j (leaf t) n v ≡ Some c → ⊥
+cut_at-leaf_not j t n v c more e = let none = cut_at-leaf j t n v more in cc
+
+inverse : {A B : Type 0} (f : A → B) (o : Option A) (y : B) → option_map f o ≡ Some y → (x : A) × (o ≡ Some x) × (f x ≡ y)
+inverse f None y e = absurd cc
+inverse f (Some x) y e = (x, refl, cc)
+
+-- what is cut of a node is a node over what is cut of one of its halves
+pub cut_at-left_inv : (j : ℕ) (l r : Tree) (n v : ℕ) (c : Tree) → v < n → v ≤ 2 ^ j → cut_at (suc j) (node l r) n v ≡ Some c → (b : Tree) × (cut_at j l (2 ^ j) v ≡ Some b) × (single b ≡ c)
+cut_at-left_inv j l r n v c more low e = inverse (λ b. single b) (cut_at j l (2 ^ j) v) c (sym (cut_at-node_left j l r n v more low) ∙ e)
+
+pub cut_at-right_inv : (j : ℕ) (l r : Tree) (n v : ℕ) (c : Tree) → v < n → 2 ^ j < v → cut_at (suc j) (node l r) n v ≡ Some c → (b : Tree) × (cut_at j r (n - 2 ^ j) (v - 2 ^ j) ≡ Some b) × (node l b ≡ c)
+cut_at-right_inv j l r n v c more high e = inverse (λ b. node l b) (cut_at j r (n - 2 ^ j) (v - 2 ^ j)) c (sym (cut_at-node_right j l r n v more high) ∙ e)
+
+pub cut_at-single_inv : (j : ℕ) (l : Tree) (n v : ℕ) (c : Tree) → v < n → cut_at (suc j) (single l) n v ≡ Some c → (b : Tree) × (cut_at j l n v ≡ Some b) × (single b ≡ c)
+cut_at-single_inv j l n v c more e = inverse (λ b. single b) (cut_at j l n v) c (sym (cut_at-single j l n v more) ∙ e)
+
 -- ---- cut_in
+
+pub cut_in-up : (j : ℕ) (p : Tree) (n v : ℕ) → 2 ^ j < v → cut_in (suc j) p n v ≡ cut_at (suc j) p n v
+unfolding cut_in
+cut_in-up j p n v high = rw (lt-ltb (2 ^ j) v high) refl
+
+pub cut_in-down : (j : ℕ) (p : Tree) (n v : ℕ) → v ≤ 2 ^ j → cut_in (suc j) p n v ≡ in_left (λ l. cut_in j l (2 ^ j) v) p
+unfolding cut_in
+cut_in-down j p n v low = rw (le-ltb (2 ^ j) v low) refl
 
 pub cut_in-low : (j : ℕ) (p : Tree) (n v : ℕ) → j ≡ 0 → cut_in j p n v ≡ cut_at j p n v
 unfolding cut_in

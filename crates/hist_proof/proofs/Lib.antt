@@ -1,5 +1,7 @@
 pub mod Views
 pub mod Halving
 pub mod Marking
+pub mod Prunings
 pub mod Spellings
 pub mod Tags
+pub mod Trees

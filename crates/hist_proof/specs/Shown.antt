@@ -2,7 +2,8 @@
 use Rattle.std.specs.Prelude.{◌≡◌, ℕ, zero, suc, ◌+◌, ◌-◌, ◌^◌, ◌<◌, ◌≤◌, Bool, true, false, ◌&&◌, ◌||◌, List, length, Option, Some, None, nat_lt, if◌then◌else◌}
 use Rattle.std.specs.List.{slice_get}
 use Rattle.fr_bytes.specs.Bytes.{Text}
-use Rattle.fr_digest.specs.Digest.{IsDigest}
+use Rattle.fr_digest.specs.Collision.{Collides, Strings}
+use Rattle.fr_digest.specs.Digest.{Digest, IsDigest}
 use Rattle.tree_model.specs.History.{depth}
 use Rattle.hist_proof.specs.Pruned.{Tree, hidden, leaf, node, single, fits}
 
@@ -52,3 +53,7 @@ HasDigests (hidden x) = IsDigest x
 HasDigests (leaf t) = Unit {0}
 HasDigests (node l r) = HasDigests l × HasDigests r
 HasDigests (single l) = HasDigests l
+
+-- two strings that d doesn't tell apart
+abbrev pub HasCollision : Digest → Type 0
+HasCollision d = (strings : Strings) × Collides d strings

@@ -5,6 +5,7 @@
 
 mod cuts;
 mod digested;
+pub mod laws;
 mod leaves;
 mod limits;
 mod marks;
