@@ -1,4 +1,5 @@
 pub mod Views
+pub mod Fronts
 pub mod Halving
 pub mod Marking
 pub mod Prunings

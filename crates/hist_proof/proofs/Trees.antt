@@ -10,6 +10,7 @@ use Rattle.tree_model.proofs.HistoryLaws.{depth-fits, root_of_all-part}
 use Rattle.tree_model.specs.History.{depth, part, root_of_all}
 use Rattle.hist_proof.specs.Pruned.{Tree, Prunes, cut, cut_in, digest_of, fits, fits_at, is_version}
 use Rattle.hist_proof.specs.Shown.{shown, shown_at}
+use Rattle.hist_proof.proofs.Fronts.{cut_in-again, cut_in-fits, cut_in-shown}
 use Rattle.hist_proof.proofs.Prunings.{prunes_at-cut_in, prunes_at-digest, prunes_at-fits, prunes_at-shown}
 
 -- ---- what is defined under a test
@@ -90,3 +91,28 @@ prunes-cut d p M v c h e =
     let len = length-take-le v M within in
     let parts = prunes_at-cut_in d (depth (length M)) p M v c some within (depth-fits (length M)) h.parts it.here in
     record { some = omega arith; parts = rw len parts }
+
+-- ---- cuts
+
+pub cut-fits : (p : Tree) (n v : ℕ) (c : Tree) → cut p n v ≡ Some c → fits c v ≡ true
+cut-fits p n v c e =
+    let it = cut-is p n v c e in
+    fits-made c v it.some (cut_in-fits (depth n) p n v c it.some it.within (depth-fits n) (fits-is p n it.fitting).parts it.here)
+
+-- a cut shows what the tree shows
+pub cut-shown : (p : Tree) (n v : ℕ) (c : Tree) (k : ℕ) → cut p n v ≡ Some c → k < v → shown c v k ≡ shown p n k
+cut-shown p n v c k e here =
+    let it = cut-is p n v c e in
+    let within = it.within in
+    shown-made c v k (cut-fits p n v c e) here
+    ∙ cut_in-shown (depth n) p n v c k it.some it.within (depth-fits n) here it.here
+    ∙ sym (shown-made p n k it.fitting (omega arith))
+
+-- a cut of a cut
+pub cut-again : (p : Tree) (n v w : ℕ) (c : Tree) → cut p n v ≡ Some c → 0 < w → w ≤ v → cut c v w ≡ cut p n w
+cut-again p n v w c e some le =
+    let it = cut-is p n v c e in
+    let within = it.within in
+    cut-made c v w (cut-fits p n v c e) some le
+    ∙ cut_in-again (depth n) p n v c w some le it.within (depth-fits n) it.here
+    ∙ sym (cut-made p n w it.fitting some (omega arith))

@@ -16,3 +16,15 @@ pub fn prunings<D: Digester>()
     ensures texts { (p : Tree) (M : List Text) (k : ℕ) (t : Text) → Prunes D.digest_of p M
         → shown p (length M) k ≡ Some t → slice_get M k ≡ Some t }
 {}
+
+/// What is cut of a pruned tree is one of the version's size and shows the same; it prunes the front of a list
+/// that the tree prunes; and a cut of it is the tree's own.
+pub fn cuts<D: Digester>()
+    ensures fits { (p : Tree) (n v : ℕ) (c : Tree) → cut p n v ≡ Some c → fits c v ≡ true }
+    ensures texts { (p : Tree) (n v : ℕ) (c : Tree) (k : ℕ) → cut p n v ≡ Some c → k < v
+        → shown c v k ≡ shown p n k }
+    ensures again { (p : Tree) (n v w : ℕ) (c : Tree) → cut p n v ≡ Some c → 0 < w → w ≤ v
+        → cut c v w ≡ cut p n w }
+    ensures front { (p : Tree) (M : List Text) (v : ℕ) (c : Tree) → Prunes D.digest_of p M
+        → cut p (length M) v ≡ Some c → Prunes D.digest_of c (take v M) }
+{}
