@@ -242,3 +242,8 @@ cut_in-again (suc j) p n v c w some le within few e =
           let down : cut_in (suc j) p n w ≡ cut_in j inv.0 (2 ^ j) w = cut_in-down j p n w (omega arith) ∙ ap (in_left (λ l. cut_in j l (2 ^ j) w)) inv.2 in
           rest ∙ sym down
     ]
+
+-- all of a tree, whose height is the least for its size
+pub cut_in-all : (j : ℕ) (p : Tree) (n : ℕ) → 0 < n → n ≤ 2 ^ j → ((i : ℕ) → i < j → 2 ^ i < n) → cut_in j p n n ≡ Some p
+cut_in-all zero p n some few high = cut_in-low 0 p n n refl ∙ cut_at-whole 0 p n n (omega arith)
+cut_in-all (suc j) p n some few high = cut_in-up j p n n (high j (omega arith)) ∙ cut_at-whole (suc j) p n n (omega arith)

@@ -1,8 +1,10 @@
 pub mod Views
+pub mod Agreement
 pub mod Fronts
 pub mod Halving
 pub mod Marking
 pub mod Prunings
 pub mod Spellings
+pub mod Straddles
 pub mod Tags
 pub mod Trees

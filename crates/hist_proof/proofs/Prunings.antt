@@ -29,7 +29,7 @@ one_text [] some fits = absurd (omega arith)
 one_text (text ∷ []) some fits = refl
 one_text (text ∷ (other ∷ texts)) some fits = absurd (omega arith)
 
-append-split : (xs ys xs' ys' : List ℕ) → length xs ≡ length xs' → xs ++ ys ≡ xs' ++ ys' → (xs ≡ xs') × (ys ≡ ys')
+pub append-split : (xs ys xs' ys' : List ℕ) → length xs ≡ length xs' → xs ++ ys ≡ xs' ++ ys' → (xs ≡ xs') × (ys ≡ ys')
 append-split [] ys [] ys' same joined = (refl, joined)
 append-split [] ys (x' ∷ xs') ys' same joined = absurd (omega arith)
 append-split (x ∷ xs) ys [] ys' same joined = absurd (omega arith)

@@ -28,3 +28,37 @@ pub fn cuts<D: Digester>()
     ensures front { (p : Tree) (M : List Text) (v : ℕ) (c : Tree) → Prunes D.digest_of p M
         → cut p (length M) v ≡ Some c → Prunes D.digest_of c (take v M) }
 {}
+
+/// There is a cut exactly where the tree fits its size, the version is one, and it ends within no hidden part; the
+/// last version is the whole tree.
+pub fn versions<D: Digester>()
+    ensures exactly { (p : Tree) (n v : ℕ) → IsSome (cut p n v)
+        ↔ ((fits p n ≡ true) × (0 < v) × (v ≤ n) × (straddled p n v ≡ false)) }
+    ensures all { (p : Tree) (n : ℕ) → fits p n ≡ true → cut p n n ≡ Some p }
+    ensures root { (p : Tree) (M : List Text) (v : ℕ) → Prunes D.digest_of p M → 0 < v → v ≤ length M
+        → straddled p (length M) v ≡ false → at D.digest_of p (length M) v ≡ Some (root D.digest_of M v) }
+    ensures none { (p : Tree) (n v : ℕ) → fits p n ≡ true → 0 < v → v ≤ n → straddled p n v ≡ true
+        → at D.digest_of p n v ≡ None }
+    ensures whole { (p : Tree) (n : ℕ) → fits p n ≡ true
+        → at D.digest_of p n n ≡ Some (digest_of D.digest_of p) }
+{}
+
+/// A pruned tree of a list's length prunes the list where their digests agree, unless two strings collide; where it
+/// shows the whole list; and where what is cut of it prunes the front of the list and it shows the rest.
+pub fn agreement<D: Digester>()
+    ensures digests { (p : Tree) (M : List Text) → HasDigests p → fits p (length M) ≡ true
+        → digest_of D.digest_of p ≡ root_of_all D.digest_of M
+        → Prunes D.digest_of p M ⊎ HasCollision D.digest_of }
+    ensures whole { (p : Tree) (M : List Text) → fits p (length M) ≡ true → ShowsFrom p 0 M
+        → Prunes D.digest_of p M }
+    ensures rest { (p : Tree) (M : List Text) (v : ℕ) (c : Tree) → cut p (length M) v ≡ Some c
+        → Prunes D.digest_of c (take v M) → ShowsFrom p v M → Prunes D.digest_of p M }
+{}
+
+/// No bytes spell two pruned trees, no pruned tree has two spellings, and in one that has a spelling each hidden part
+/// has a digest's length.
+pub fn one_spelling()
+    ensures one_value { (p q : Tree) (bytes : Text) → Spells p bytes → Spells q bytes → p ≡ q }
+    ensures one_text { (p : Tree) (a b : Text) → Spells p a → Spells p b → a ≡ b }
+    ensures digests { (p : Tree) → IsSpelled p → HasDigests p }
+{}
