@@ -1,6 +1,6 @@
 -- When a pruned tree prunes a list: where their digests agree, where it shows the whole list, and where what is
 -- cut of it prunes the front of the list and it shows the rest.
-use Rattle.std.proofs.Common.{◌≡◌, ◌⊎◌, ℕ, zero, suc, ◌+◌, ◌-◌, ◌^◌, ◌<◌, ◌≤◌, Bool, true, false, List, [], ◌∷◌, ◌++◌, length, take, drop, get_or, Option, Some, None, refl, ap, sym, ◌∙◌, inl, inr, arith}
+use Rattle.std.proofs.Common.{◌≡◌, ◌⊎◌, ℕ, zero, suc, ◌+◌, ◌-◌, ◌^◌, ◌<◌, ◌≤◌, true, List, [], ◌∷◌, ◌++◌, length, take, drop, get_or, Some, refl, ap, sym, ◌∙◌, inl, inr, arith}
 use Rattle.std.proofs.lemmas.Bool.{cases_Bool, cases_lt, lt-ltb, le-ltb}
 use Rattle.std.proofs.lemmas.Bool.Decides.{not_from_Decides}
 use Rattle.std.proofs.lemmas.List.{get_or-drop, get_or-take, length-drop, length-take-le, take-take, take_all}
@@ -8,14 +8,13 @@ use Rattle.std.proofs.lemmas.Nat.{pow_pos}
 use Rattle.std.proofs.lemmas.Slice.Eq.{bytes_eq-Decides}
 use Rattle.std.proofs.Math.Nat.{pow-suc}
 use Rattle.std.specs.Str.{bytes_eq}
-use Rattle.fr_digest.specs.Collision.{Collides, Strings}
 use Rattle.fr_digest.specs.Digest.{Digest, IsDigest}
 use Rattle.tree_model.proofs.HistoryLaws.{length-part, part-leaf, part-pair, part-single}
 use Rattle.tree_model.specs.History.{depth, leaf_string, pair_string, part, single_string}
-use Rattle.hist_proof.specs.Pruned.{Tree, hidden, leaf, node, single, PrunesAt, cut_at, cut_in, digest_of, fits_at, in_left}
+use Rattle.hist_proof.specs.Pruned.{Tree, hidden, leaf, node, single, PrunesAt, cut_at, cut_in, digest_of, fits_at}
 use Rattle.hist_proof.specs.Shown.{HasCollision, HasDigests, shown_at}
 use Rattle.hist_proof.proofs.Fronts.{fits_node-is, fits_single-is, left_some}
-use Rattle.hist_proof.proofs.Halving.{cut_at-all, cut_at-hidden_not, cut_at-left_inv, cut_at-low_not, cut_at-right_inv, cut_at-single_inv, cut_in-down, cut_in-low, cut_in-up, fits_at-leaf_high, fits_at-node_low, fits_at-single_low}
+use Rattle.hist_proof.proofs.Halving.{cut_at-all, cut_at-hidden_not, cut_at-left_inv, cut_at-right_inv, cut_at-single_inv, cut_in-down, cut_in-low, cut_in-up, fits_at-leaf_high, fits_at-node_low, fits_at-single_low}
 use Rattle.hist_proof.proofs.Prunings.{append-split, depth-first, depth-past, drop-take-le, one_text}
 
 -- ---- equal digests
@@ -48,31 +47,40 @@ then : {A B C : Type 0} → A ⊎ C → (A → B ⊎ C) → B ⊎ C
 then (inl a) f = f a
 then (inr c) f = inr c
 
-leaf_agrees : (d : Digest) (t : List ℕ) (M : List (List ℕ)) → 0 < length M → length M ≤ 2 ^ 0 → digest_of d (leaf t) ≡ part d 0 M → (M ≡ t ∷ []) ⊎ HasCollision d
+leaf_agrees : (d : Digest) (t : List ℕ) (M : List (List ℕ)) → 0 < length M → length M ≤ 2 ^ 0
+    → digest_of d (leaf t) ≡ part d 0 M → (M ≡ t ∷ []) ⊎ HasCollision d
 unfolding digest_of
 leaf_agrees d t M some few agree =
     let one = one_text M some few in
     let same : d (leaf_string t) ≡ d (leaf_string (get_or M 0 [])) = agree ∙ ap (part d 0) one ∙ part-leaf d (get_or M 0 []) in
-    made (λ (e : leaf_string t ≡ leaf_string (get_or M 0 [])). let text : get_or M 0 [] ≡ t = cc in one ∙ ap (λ (u : List ℕ). u ∷ []) text)
+    made (λ (e : leaf_string t ≡ leaf_string (get_or M 0 [])). let text : get_or M 0 [] ≡ t =
+    cc in one ∙ ap (λ (u : List ℕ). u ∷ []) text)
     (same_or_collide d (leaf_string t) (leaf_string (get_or M 0 [])) same)
 
 -- what both halves of two nodes of one digest have in common
-pair_agrees : (d : Digest) (a b a' b' : List ℕ) → length a ≡ length a' → d (pair_string a b) ≡ d (pair_string a' b') → ((a ≡ a') × (b ≡ b')) ⊎ HasCollision d
+pair_agrees : (d : Digest) (a b a' b' : List ℕ) → length a ≡ length a'
+    → d (pair_string a b) ≡ d (pair_string a' b') → ((a ≡ a') × (b ≡ b')) ⊎ HasCollision d
 pair_agrees d a b a' b' len agree =
-    made (λ (e : pair_string a b ≡ pair_string a' b'). let joined : a ++ b ≡ a' ++ b' = cc in append-split a b a' b' len joined)
+    made (λ (e : pair_string a b ≡ pair_string a' b'). let joined : a ++ b ≡ a' ++ b' =
+    cc in append-split a b a' b' len joined)
     (same_or_collide d (pair_string a b) (pair_string a' b') agree)
 
 single_agrees : (d : Digest) (a a' : List ℕ) → d (single_string a) ≡ d (single_string a') → (a ≡ a') ⊎ HasCollision d
 single_agrees d a a' agree =
-    made (λ (e : single_string a ≡ single_string a'). let same : a ≡ a' = cc in same) (same_or_collide d (single_string a) (single_string a') agree)
+    made (λ (e : single_string a ≡ single_string a'). let same : a ≡ a' =
+    cc in same) (same_or_collide d (single_string a) (single_string a') agree)
 
-pub agrees_at : (d : Digest) → ((m : List ℕ) → IsDigest (d m)) → (j : ℕ) (p : Tree) (M : List (List ℕ)) → HasDigests p → 0 < length M → length M ≤ 2 ^ j → fits_at j p (length M) ≡ true → digest_of d p ≡ part d j M → PrunesAt d j p M ⊎ HasCollision d
+pub agrees_at : (d : Digest) → ((m : List ℕ) → IsDigest (d m)) → (j : ℕ) (p : Tree) (M : List (List ℕ))
+    → HasDigests p → 0 < length M → length M ≤ 2 ^ j → fits_at j p (length M) ≡ true
+    → digest_of d p ≡ part d j M → PrunesAt d j p M ⊎ HasCollision d
 unfolding PrunesAt digest_of HasDigests
 agrees_at d sized zero (hidden x) M held some few h agree = inl agree
 agrees_at d sized (suc j) (hidden x) M held some few h agree = inl agree
 agrees_at d sized zero (leaf t) M held some few h agree = leaf_agrees d t M some few agree
-agrees_at d sized (suc j) (leaf t) M held some few h agree = let wrong = fits_at-leaf_high (suc j) t (length M) (omega arith) in absurd cc
-agrees_at d sized zero (node l r) M held some few h agree = let wrong = fits_at-node_low 0 l r (length M) refl in absurd cc
+agrees_at d sized (suc j) (leaf t) M held some few h agree =
+    let wrong = fits_at-leaf_high (suc j) t (length M) (omega arith) in absurd cc
+agrees_at d sized zero (node l r) M held some few h agree =
+    let wrong = fits_at-node_low 0 l r (length M) refl in absurd cc
 agrees_at d sized (suc j) (node l r) M held some few h agree =
     let parts = fits_node-is j l r (length M) h in
     let more = parts.more in
@@ -86,7 +94,8 @@ agrees_at d sized (suc j) (node l r) M held some few h agree =
     (both
     (agrees_at d sized j l (take (2 ^ j) M) held.0 (omega arith) (omega arith) (rw left_len (parts.left)) same.0)
     (agrees_at d sized j r (drop (2 ^ j) M) held.1 (omega arith) (omega arith) (rw right_len (parts.right)) same.1)))
-agrees_at d sized zero (single l) M held some few h agree = let wrong = fits_at-single_low 0 l (length M) refl in absurd cc
+agrees_at d sized zero (single l) M held some few h agree =
+    let wrong = fits_at-single_low 0 l (length M) refl in absurd cc
 agrees_at d sized (suc j) (single l) M held some few h agree =
     let parts = fits_single-is j l (length M) h in
     then (single_agrees d (digest_of d l) (part d j M) (agree ∙ part-single d j M parts.few))
@@ -98,7 +107,8 @@ agrees_at d sized (suc j) (single l) M held some few h agree =
 pub record Shows (j : ℕ) (p : Tree) (v : ℕ) (M : List (List ℕ)) : Type 0 where
   pub each : (k : ℕ) → v ≤ k → k < length M → shown_at j p k ≡ Some (get_or M k [])
 
-to_left : (j : ℕ) (l r : Tree) (v : ℕ) (M : List (List ℕ)) → 2 ^ j < length M → Shows (suc j) (node l r) v M → Shows j l v (take (2 ^ j) M)
+to_left : (j : ℕ) (l r : Tree) (v : ℕ) (M : List (List ℕ)) → 2 ^ j < length M → Shows (suc j) (node l r) v M
+    → Shows j l v (take (2 ^ j) M)
 unfolding shown_at
 to_left j l r v M more h = record {
   each = λ k le within.
@@ -108,7 +118,8 @@ to_left j l r v M more h = record {
       rw (lt-ltb k (2 ^ j) low) at here ∙ ap (λ (t : List ℕ). Some t) (sym (get_or-take (2 ^ j) M k [] low));
 }
 
-to_right : (j : ℕ) (l r : Tree) (v : ℕ) (M : List (List ℕ)) → 2 ^ j < length M → Shows (suc j) (node l r) v M → Shows j r (v - 2 ^ j) (drop (2 ^ j) M)
+to_right : (j : ℕ) (l r : Tree) (v : ℕ) (M : List (List ℕ)) → 2 ^ j < length M → Shows (suc j) (node l r) v M
+    → Shows j r (v - 2 ^ j) (drop (2 ^ j) M)
 unfolding shown_at
 to_right j l r v M more h = record {
   each = λ k le within.
@@ -138,12 +149,14 @@ hidden_shown (suc j) x M some h = let here = h.each 0 (omega arith) some in cc
 from_first : (j : ℕ) (p : Tree) (v : ℕ) (M : List (List ℕ)) → v ≡ 0 → Shows j p v M → Shows j p 0 M
 from_first j p v M first h = record { each = λ k le within. h.each k (omega arith) within }
 
-pub full_at : (d : Digest) (j : ℕ) (p : Tree) (M : List (List ℕ)) → 0 < length M → length M ≤ 2 ^ j → fits_at j p (length M) ≡ true → Shows j p 0 M → PrunesAt d j p M
+pub full_at : (d : Digest) (j : ℕ) (p : Tree) (M : List (List ℕ)) → 0 < length M → length M ≤ 2 ^ j
+    → fits_at j p (length M) ≡ true → Shows j p 0 M → PrunesAt d j p M
 unfolding PrunesAt
 full_at d zero (hidden x) M some few h shows = absurd (hidden_shown 0 x M some shows)
 full_at d (suc j) (hidden x) M some few h shows = absurd (hidden_shown (suc j) x M some shows)
 full_at d zero (leaf t) M some few h shows = leaf_shown t M some few shows
-full_at d (suc j) (leaf t) M some few h shows = let wrong = fits_at-leaf_high (suc j) t (length M) (omega arith) in absurd cc
+full_at d (suc j) (leaf t) M some few h shows =
+    let wrong = fits_at-leaf_high (suc j) t (length M) (omega arith) in absurd cc
 full_at d zero (node l r) M some few h shows = let wrong = fits_at-node_low 0 l r (length M) refl in absurd cc
 full_at d (suc j) (node l r) M some few h shows =
     let parts = fits_node-is j l r (length M) h in
@@ -152,10 +165,11 @@ full_at d (suc j) (node l r) M some few h shows =
     let positive = pow_pos j in
     let left_len = length-take-le (2 ^ j) M (omega arith) in
     let right_len = length-drop (2 ^ j) M in
-    let start : 0 - 2 ^ j ≡ 0 = omega arith in
-    (more,
-    full_at d j l (take (2 ^ j) M) (omega arith) (omega arith) (rw left_len (parts.left)) (to_left j l r 0 M more shows),
-    full_at d j r (drop (2 ^ j) M) (omega arith) (omega arith) (rw right_len (parts.right)) (from_first j r (0 - 2 ^ j) (drop (2 ^ j) M) start (to_right j l r 0 M more shows)))
+    let start : 0 - 2 ^ j ≡ 0 = omega arith in (
+      more,
+      full_at d j l (take (2 ^ j) M) (omega arith) (omega arith) (rw left_len (parts.left)) (to_left j l r 0 M more shows),
+      full_at d j r (drop (2 ^ j) M) (omega arith) (omega arith) (rw right_len (parts.right)) (from_first j r (0 - 2 ^ j) (drop (2 ^ j) M) start (to_right j l r 0 M more shows)),
+    )
 full_at d zero (single l) M some few h shows = let wrong = fits_at-single_low 0 l (length M) refl in absurd cc
 full_at d (suc j) (single l) M some few h shows =
     let parts = fits_single-is j l (length M) h in
@@ -163,13 +177,16 @@ full_at d (suc j) (single l) M some few h shows =
 
 -- ---- what is cut, and the rest shown
 
-glue_whole : (d : Digest) (j : ℕ) (p : Tree) (M : List (List ℕ)) (v : ℕ) (c : Tree) → length M ≤ v → cut_at j p (length M) v ≡ Some c → PrunesAt d j c (take v M) → PrunesAt d j p M
+glue_whole : (d : Digest) (j : ℕ) (p : Tree) (M : List (List ℕ)) (v : ℕ) (c : Tree) → length M ≤ v
+    → cut_at j p (length M) v ≡ Some c → PrunesAt d j c (take v M) → PrunesAt d j p M
 glue_whole d j p M v c all e h =
     let same = cut_at-all j p (length M) v c all e in
     let list = take_all v M all in rw (same, ← list) (h)
 
 -- the right half, whose positions are all shown
-right_shown : (d : Digest) (j : ℕ) (l r : Tree) (M : List (List ℕ)) (v : ℕ) → length M ≤ 2 ^ suc j → v ≤ 2 ^ j → fits_at (suc j) (node l r) (length M) ≡ true → Shows (suc j) (node l r) v M → PrunesAt d j r (drop (2 ^ j) M)
+right_shown : (d : Digest) (j : ℕ) (l r : Tree) (M : List (List ℕ)) (v : ℕ) → length M ≤ 2 ^ suc j → v ≤ 2 ^ j
+    → fits_at (suc j) (node l r) (length M) ≡ true → Shows (suc j) (node l r) v M
+    → PrunesAt d j r (drop (2 ^ j) M)
 right_shown d j l r M v few low fitting shows =
     let parts = fits_node-is j l r (length M) fitting in
     let more = parts.more in
@@ -178,7 +195,9 @@ right_shown d j l r M v few low fitting shows =
     let start : v - 2 ^ j ≡ 0 = omega arith in
     full_at d j r (drop (2 ^ j) M) (omega arith) (omega arith) (rw right_len (parts.right)) (from_first j r (v - 2 ^ j) (drop (2 ^ j) M) start (to_right j l r v M more shows))
 
-pub glue_at : (d : Digest) (j : ℕ) (p : Tree) (M : List (List ℕ)) (v : ℕ) (c : Tree) → 0 < v → v ≤ length M → length M ≤ 2 ^ j → fits_at j p (length M) ≡ true → cut_at j p (length M) v ≡ Some c → PrunesAt d j c (take v M) → Shows j p v M → PrunesAt d j p M
+pub glue_at : (d : Digest) (j : ℕ) (p : Tree) (M : List (List ℕ)) (v : ℕ) (c : Tree) → 0 < v → v ≤ length M
+    → length M ≤ 2 ^ j → fits_at j p (length M) ≡ true → cut_at j p (length M) v ≡ Some c
+    → PrunesAt d j c (take v M) → Shows j p v M → PrunesAt d j p M
 unfolding PrunesAt
 glue_at d zero p M v c some within few fitting e h shows = glue_whole d 0 p M v c (omega arith) e h
 glue_at d (suc j) (hidden x) M v c some within few fitting e h shows =
@@ -186,7 +205,8 @@ glue_at d (suc j) (hidden x) M v c some within few fitting e h shows =
       | inl short ↦ absurd (cut_at-hidden_not (suc j) x (length M) v c short e)
       | inr all ↦ glue_whole d (suc j) (hidden x) M v c all e h
     ]
-glue_at d (suc j) (leaf t) M v c some within few fitting e h shows = let wrong = fits_at-leaf_high (suc j) t (length M) (omega arith) in absurd cc
+glue_at d (suc j) (leaf t) M v c some within few fitting e h shows =
+    let wrong = fits_at-leaf_high (suc j) t (length M) (omega arith) in absurd cc
 glue_at d (suc j) (node l r) M v c some within few fitting e h shows =
     let parts = fits_node-is j l r (length M) fitting in
     let more = parts.more in
@@ -220,14 +240,18 @@ glue_at d (suc j) (single l) M v c some within few fitting e h shows =
     ]
 
 -- a node of two halves, from what its halves prune
-prunes_node : (d : Digest) (j : ℕ) (l r : Tree) (M : List (List ℕ)) → 2 ^ j < length M → PrunesAt d j l (take (2 ^ j) M) → PrunesAt d j r (drop (2 ^ j) M) → PrunesAt d (suc j) (node l r) M
+prunes_node : (d : Digest) (j : ℕ) (l r : Tree) (M : List (List ℕ)) → 2 ^ j < length M
+    → PrunesAt d j l (take (2 ^ j) M) → PrunesAt d j r (drop (2 ^ j) M) → PrunesAt d (suc j) (node l r) M
 unfolding PrunesAt
 prunes_node d j l r M more left right = (more, left, right)
 
-glue_left : (d : Digest) (j : ℕ) (p l r : Tree) (M : List (List ℕ)) → p ≡ node l r → PrunesAt d (suc j) (node l r) M → PrunesAt d (suc j) p M
+glue_left : (d : Digest) (j : ℕ) (p l r : Tree) (M : List (List ℕ)) → p ≡ node l r
+    → PrunesAt d (suc j) (node l r) M → PrunesAt d (suc j) p M
 glue_left d j p l r M same h = rw same h
 
-pub glue_in : (d : Digest) (j : ℕ) (p : Tree) (M : List (List ℕ)) (v : ℕ) (c : Tree) → 0 < v → v ≤ length M → length M ≤ 2 ^ j → fits_at j p (length M) ≡ true → cut_in j p (length M) v ≡ Some c → PrunesAt d (depth v) c (take v M) → Shows j p v M → PrunesAt d j p M
+pub glue_in : (d : Digest) (j : ℕ) (p : Tree) (M : List (List ℕ)) (v : ℕ) (c : Tree) → 0 < v → v ≤ length M
+    → length M ≤ 2 ^ j → fits_at j p (length M) ≡ true → cut_in j p (length M) v ≡ Some c
+    → PrunesAt d (depth v) c (take v M) → Shows j p v M → PrunesAt d j p M
 glue_in d zero p M v c some within few fitting e h shows =
     glue_at d 0 p M v c some within few fitting (sym (cut_in-low 0 p (length M) v refl) ∙ e) (rw (depth-first (length M) v some within few) at h) shows
 glue_in d (suc j) p M v c some within few fitting e h shows =

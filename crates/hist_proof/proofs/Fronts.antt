@@ -1,6 +1,5 @@
 -- What is cut of a pruned tree, whether or not it prunes a list: its size, what it shows, and what is cut of it.
-use Rattle.std.proofs.Common.{◌≡◌, ◌⊎◌, ℕ, zero, suc, ◌-◌, ◌^◌, ◌<◌, ◌≤◌, Bool, true, false, ◌&&◌, List, Option, Some, None, refl, ap, sym, ◌∙◌, inl, inr, arith}
-use Rattle.std.specs.Option.{option_map}
+use Rattle.std.proofs.Common.{◌≡◌, ℕ, zero, suc, ◌-◌, ◌^◌, ◌<◌, ◌≤◌, true, Option, Some, refl, ap, sym, ◌∙◌, inl, inr, arith}
 use Rattle.std.proofs.lemmas.Bool.{and_from, and_parts, cases_lt, lt-ltb, le-ltb}
 use Rattle.tree_model.specs.History.{depth}
 use Rattle.hist_proof.specs.Pruned.{Tree, hidden, leaf, node, single, cut_at, cut_in, fits_at, in_left}
@@ -36,7 +35,8 @@ fits_single-is j l n e =
       | inr few ↦ record { few = few; left = sym (fits_at-single j l n few) ∙ e }
     ]
 
-pub cut_at-fits : (j : ℕ) (p : Tree) (n v : ℕ) (c : Tree) → v ≤ n → fits_at j p n ≡ true → cut_at j p n v ≡ Some c → fits_at j c v ≡ true
+pub cut_at-fits : (j : ℕ) (p : Tree) (n v : ℕ) (c : Tree) → v ≤ n → fits_at j p n ≡ true
+    → cut_at j p n v ≡ Some c → fits_at j c v ≡ true
 cut_at-fits zero p n v c within h e =
     elim (cases_lt v n) [
       | inl short ↦ absurd (cut_at-low_not p n v c short e)
@@ -78,7 +78,8 @@ cut_at-fits (suc j) (single l) n v c within h e =
 
 -- ---- what is shown
 
-pub cut_at-shown : (j : ℕ) (p : Tree) (n v : ℕ) (c : Tree) (k : ℕ) → k < v → cut_at j p n v ≡ Some c → shown_at j c k ≡ shown_at j p k
+pub cut_at-shown : (j : ℕ) (p : Tree) (n v : ℕ) (c : Tree) (k : ℕ) → k < v → cut_at j p n v ≡ Some c
+    → shown_at j c k ≡ shown_at j p k
 unfolding shown_at
 cut_at-shown zero p n v c k here e =
     elim (cases_lt v n) [
@@ -118,7 +119,8 @@ cut_at-shown (suc j) (single l) n v c k here e =
 
 -- ---- cuts of cuts
 
-pub cut_at-again : (j : ℕ) (p : Tree) (n v : ℕ) (c : Tree) (w : ℕ) → v ≤ n → w ≤ v → cut_at j p n v ≡ Some c → cut_at j c v w ≡ cut_at j p n w
+pub cut_at-again : (j : ℕ) (p : Tree) (n v : ℕ) (c : Tree) (w : ℕ) → v ≤ n → w ≤ v → cut_at j p n v ≡ Some c
+    → cut_at j c v w ≡ cut_at j p n w
 cut_at-again zero p n v c w within le e =
     elim (cases_lt v n) [
       | inl short ↦ absurd (cut_at-low_not p n v c short e)
@@ -169,13 +171,15 @@ cut_at-again (suc j) (single l) n v c w within le e =
 
 -- ---- at the height of the version
 
-pub left_some : (f : Tree → Option Tree) (p c : Tree) → in_left f p ≡ Some c → (l r : Tree) × (p ≡ node l r) × (f l ≡ Some c)
+pub left_some : (f : Tree → Option Tree) (p c : Tree) → in_left f p ≡ Some c
+    → (l r : Tree) × (p ≡ node l r) × (f l ≡ Some c)
 left_some f (hidden x) c e = absurd cc
 left_some f (leaf t) c e = absurd cc
 left_some f (node l r) c e = (l, r, refl, e)
 left_some f (single l) c e = absurd cc
 
-pub cut_in-fits : (j : ℕ) (p : Tree) (n v : ℕ) (c : Tree) → 0 < v → v ≤ n → n ≤ 2 ^ j → fits_at j p n ≡ true → cut_in j p n v ≡ Some c → fits_at (depth v) c v ≡ true
+pub cut_in-fits : (j : ℕ) (p : Tree) (n v : ℕ) (c : Tree) → 0 < v → v ≤ n → n ≤ 2 ^ j → fits_at j p n ≡ true
+    → cut_in j p n v ≡ Some c → fits_at (depth v) c v ≡ true
 cut_in-fits zero p n v c some within few h e =
     rw (depth-first n v some within few) (cut_at-fits 0 p n v c within h (sym (cut_in-low 0 p n v refl) ∙ e))
 cut_in-fits (suc j) p n v c some within few h e =
@@ -187,7 +191,8 @@ cut_in-fits (suc j) p n v c some within few h e =
           cut_in-fits j inv.0 (2 ^ j) v c some low (omega arith) parts.left inv.3
     ]
 
-pub cut_in-shown : (j : ℕ) (p : Tree) (n v : ℕ) (c : Tree) (k : ℕ) → 0 < v → v ≤ n → n ≤ 2 ^ j → k < v → cut_in j p n v ≡ Some c → shown_at (depth v) c k ≡ shown_at j p k
+pub cut_in-shown : (j : ℕ) (p : Tree) (n v : ℕ) (c : Tree) (k : ℕ) → 0 < v → v ≤ n → n ≤ 2 ^ j → k < v
+    → cut_in j p n v ≡ Some c → shown_at (depth v) c k ≡ shown_at j p k
 unfolding shown_at
 cut_in-shown zero p n v c k some within few here e =
     rw (depth-first n v some within few) (cut_at-shown 0 p n v c k here (sym (cut_in-low 0 p n v refl) ∙ e))
@@ -200,7 +205,8 @@ cut_in-shown (suc j) p n v c k some within few here e =
     ]
 
 -- what is cut of the left half stays where the right half is cut
-left_stays : (j : ℕ) (p : Tree) (n v : ℕ) (c : Tree) (f : Tree → Option Tree) → v ≤ n → 2 ^ j < v → cut_at (suc j) p n v ≡ Some c → in_left f c ≡ in_left f p
+left_stays : (j : ℕ) (p : Tree) (n v : ℕ) (c : Tree) (f : Tree → Option Tree) → v ≤ n → 2 ^ j < v
+    → cut_at (suc j) p n v ≡ Some c → in_left f c ≡ in_left f p
 left_stays j (hidden x) n v c f within high e =
     elim (cases_lt v n) [
       | inl short ↦ absurd (cut_at-hidden_not (suc j) x n v c short e)
@@ -222,7 +228,8 @@ left_stays j (single l) n v c f within high e =
       | inr all ↦ ap (in_left f) (sym (cut_at-all (suc j) (single l) n v c all e))
     ]
 
-pub cut_in-again : (j : ℕ) (p : Tree) (n v : ℕ) (c : Tree) (w : ℕ) → 0 < w → w ≤ v → v ≤ n → n ≤ 2 ^ j → cut_in j p n v ≡ Some c → cut_in (depth v) c v w ≡ cut_in j p n w
+pub cut_in-again : (j : ℕ) (p : Tree) (n v : ℕ) (c : Tree) (w : ℕ) → 0 < w → w ≤ v → v ≤ n → n ≤ 2 ^ j
+    → cut_in j p n v ≡ Some c → cut_in (depth v) c v w ≡ cut_in j p n w
 cut_in-again zero p n v c w some le within few e =
     let same : w ≡ v = omega arith in
     let whole = cut_at-whole 0 c v w (omega arith) in
@@ -244,6 +251,8 @@ cut_in-again (suc j) p n v c w some le within few e =
     ]
 
 -- all of a tree, whose height is the least for its size
-pub cut_in-all : (j : ℕ) (p : Tree) (n : ℕ) → 0 < n → n ≤ 2 ^ j → ((i : ℕ) → i < j → 2 ^ i < n) → cut_in j p n n ≡ Some p
+pub cut_in-all : (j : ℕ) (p : Tree) (n : ℕ) → 0 < n → n ≤ 2 ^ j → ((i : ℕ) → i < j → 2 ^ i < n)
+    → cut_in j p n n ≡ Some p
 cut_in-all zero p n some few high = cut_in-low 0 p n n refl ∙ cut_at-whole 0 p n n (omega arith)
-cut_in-all (suc j) p n some few high = cut_in-up j p n n (high j (omega arith)) ∙ cut_at-whole (suc j) p n n (omega arith)
+cut_in-all (suc j) p n some few high =
+    cut_in-up j p n n (high j (omega arith)) ∙ cut_at-whole (suc j) p n n (omega arith)

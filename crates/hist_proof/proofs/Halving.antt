@@ -1,5 +1,5 @@
 -- The equations of the definitions that go by the halving of a list, at a height written as in the code.
-use Rattle.std.proofs.Common.{◌≡◌, ℕ, zero, suc, ◌+◌, ◌-◌, ◌^◌, ◌<◌, ◌≤◌, Bool, true, false, ◌&&◌, List, Option, Some, None, nat_lt, refl, ap, sym, ◌∙◌, arith}
+use Rattle.std.proofs.Common.{◌≡◌, ℕ, zero, suc, ◌-◌, ◌^◌, ◌<◌, ◌≤◌, true, false, ◌&&◌, List, Option, Some, None, refl, sym, ◌∙◌, arith}
 use Rattle.std.specs.Option.{option_map}
 use Rattle.std.proofs.lemmas.Bool.{lt-ltb, le-ltb}
 use Rattle.hist_proof.specs.Pruned.{Tree, hidden, leaf, node, single, fits_at, cut_at, cut_in, in_left}
@@ -33,7 +33,8 @@ unfolding fits_at
 fits_at-single_low zero l n low = refl
 fits_at-single_low (suc j) l n low = absurd (omega arith)
 
-pub fits_at-node : (j : ℕ) (l r : Tree) (n : ℕ) → 2 ^ j < n → fits_at (suc j) (node l r) n ≡ fits_at j l (2 ^ j) && fits_at j r (n - 2 ^ j)
+pub fits_at-node : (j : ℕ) (l r : Tree) (n : ℕ) → 2 ^ j < n
+    → fits_at (suc j) (node l r) n ≡ fits_at j l (2 ^ j) && fits_at j r (n - 2 ^ j)
 unfolding fits_at
 fits_at-node j l r n more = rw (lt-ltb (2 ^ j) n more) refl
 
@@ -50,13 +51,15 @@ unfolding fits_at
 fits_at-single_big j l n more = rw (lt-ltb (2 ^ j) n more) refl
 
 -- where the right half is what decides
-pub fits_at-right : (j : ℕ) (l r : Tree) (n : ℕ) → 0 < j → 2 ^ (j - 1) < n → fits_at (j - 1) l (2 ^ (j - 1)) ≡ true → fits_at j (node l r) n ≡ fits_at (j - 1) r (n - 2 ^ (j - 1))
+pub fits_at-right : (j : ℕ) (l r : Tree) (n : ℕ) → 0 < j → 2 ^ (j - 1) < n
+    → fits_at (j - 1) l (2 ^ (j - 1)) ≡ true → fits_at j (node l r) n ≡ fits_at (j - 1) r (n - 2 ^ (j - 1))
 fits_at-right zero l r n high more left = absurd (omega arith)
 fits_at-right (suc j) l r n high more left =
     let below : suc j - 1 ≡ j = omega arith in
     rw below (fits_at-node j l r n (rw below at more) ∙ rw (rw below at left) refl)
 
-pub fits_at-left_not : (j : ℕ) (l r : Tree) (n : ℕ) → 0 < j → 2 ^ (j - 1) < n → fits_at (j - 1) l (2 ^ (j - 1)) ≡ false → fits_at j (node l r) n ≡ false
+pub fits_at-left_not : (j : ℕ) (l r : Tree) (n : ℕ) → 0 < j → 2 ^ (j - 1) < n
+    → fits_at (j - 1) l (2 ^ (j - 1)) ≡ false → fits_at j (node l r) n ≡ false
 fits_at-left_not zero l r n high more left = absurd (omega arith)
 fits_at-left_not (suc j) l r n high more left =
     let below : suc j - 1 ≡ j = omega arith in
@@ -67,7 +70,8 @@ fits_at-small_not zero l r n high less = absurd (omega arith)
 fits_at-small_not (suc j) l r n high less =
     let below : suc j - 1 ≡ j = omega arith in fits_at-node_small j l r n (rw below at less)
 
-pub fits_at-single_left : (j : ℕ) (l : Tree) (n : ℕ) → 0 < j → n ≤ 2 ^ (j - 1) → fits_at j (single l) n ≡ fits_at (j - 1) l n
+pub fits_at-single_left : (j : ℕ) (l : Tree) (n : ℕ) → 0 < j → n ≤ 2 ^ (j - 1)
+    → fits_at j (single l) n ≡ fits_at (j - 1) l n
 fits_at-single_left zero l n high less = absurd (omega arith)
 fits_at-single_left (suc j) l n high less =
     let below : suc j - 1 ≡ j = omega arith in rw below (fits_at-single j l n (rw below at less))
@@ -104,29 +108,35 @@ unfolding cut_at
 cut_at-leaf zero t n v more = rw (lt-ltb v n more) refl
 cut_at-leaf (suc j) t n v more = rw (lt-ltb v n more) refl
 
-pub cut_at-node_left : (j : ℕ) (l r : Tree) (n v : ℕ) → v < n → v ≤ 2 ^ j → cut_at (suc j) (node l r) n v ≡ option_map (λ c. single c) (cut_at j l (2 ^ j) v)
+pub cut_at-node_left : (j : ℕ) (l r : Tree) (n v : ℕ) → v < n → v ≤ 2 ^ j
+    → cut_at (suc j) (node l r) n v ≡ option_map (λ c. single c) (cut_at j l (2 ^ j) v)
 unfolding cut_at
 cut_at-node_left j l r n v more low = rw (lt-ltb v n more, le-ltb (2 ^ j) v low) refl
 
-pub cut_at-node_right : (j : ℕ) (l r : Tree) (n v : ℕ) → v < n → 2 ^ j < v → cut_at (suc j) (node l r) n v ≡ option_map (λ c. node l c) (cut_at j r (n - 2 ^ j) (v - 2 ^ j))
+pub cut_at-node_right : (j : ℕ) (l r : Tree) (n v : ℕ) → v < n → 2 ^ j < v
+    → cut_at (suc j) (node l r) n v ≡ option_map (λ c. node l c) (cut_at j r (n - 2 ^ j) (v - 2 ^ j))
 unfolding cut_at
 cut_at-node_right j l r n v more high = rw (lt-ltb v n more, lt-ltb (2 ^ j) v high) refl
 
-pub cut_at-single : (j : ℕ) (l : Tree) (n v : ℕ) → v < n → cut_at (suc j) (single l) n v ≡ option_map (λ c. single c) (cut_at j l n v)
+pub cut_at-single : (j : ℕ) (l : Tree) (n v : ℕ) → v < n
+    → cut_at (suc j) (single l) n v ≡ option_map (λ c. single c) (cut_at j l n v)
 unfolding cut_at
 cut_at-single j l n v more = rw (lt-ltb v n more) refl
 
-pub cut_at-left : (j : ℕ) (l r : Tree) (n v : ℕ) → 0 < j → v < n → v ≤ 2 ^ (j - 1) → cut_at j (node l r) n v ≡ option_map (λ c. single c) (cut_at (j - 1) l (2 ^ (j - 1)) v)
+pub cut_at-left : (j : ℕ) (l r : Tree) (n v : ℕ) → 0 < j → v < n → v ≤ 2 ^ (j - 1)
+    → cut_at j (node l r) n v ≡ option_map (λ c. single c) (cut_at (j - 1) l (2 ^ (j - 1)) v)
 cut_at-left zero l r n v above more low = absurd (omega arith)
 cut_at-left (suc j) l r n v above more low =
     let below : suc j - 1 ≡ j = omega arith in rw below (cut_at-node_left j l r n v more (rw below at low))
 
-pub cut_at-right : (j : ℕ) (l r : Tree) (n v : ℕ) → 0 < j → v < n → 2 ^ (j - 1) < v → cut_at j (node l r) n v ≡ option_map (λ c. node l c) (cut_at (j - 1) r (n - 2 ^ (j - 1)) (v - 2 ^ (j - 1)))
+pub cut_at-right : (j : ℕ) (l r : Tree) (n v : ℕ) → 0 < j → v < n → 2 ^ (j - 1) < v
+    → cut_at j (node l r) n v ≡ option_map (λ c. node l c) (cut_at (j - 1) r (n - 2 ^ (j - 1)) (v - 2 ^ (j - 1)))
 cut_at-right zero l r n v above more high = absurd (omega arith)
 cut_at-right (suc j) l r n v above more high =
     let below : suc j - 1 ≡ j = omega arith in rw below (cut_at-node_right j l r n v more (rw below at high))
 
-pub cut_at-only : (j : ℕ) (l : Tree) (n v : ℕ) → 0 < j → v < n → cut_at j (single l) n v ≡ option_map (λ c. single c) (cut_at (j - 1) l n v)
+pub cut_at-only : (j : ℕ) (l : Tree) (n v : ℕ) → 0 < j → v < n
+    → cut_at j (single l) n v ≡ option_map (λ c. single c) (cut_at (j - 1) l n v)
 cut_at-only zero l n v above more = absurd (omega arith)
 cut_at-only (suc j) l n v above more =
     let below : suc j - 1 ≡ j = omega arith in rw below (cut_at-single j l n v more)
@@ -145,18 +155,25 @@ cut_at-hidden_not j x n v c more e = let none = cut_at-hidden j x n v more in cc
 pub cut_at-leaf_not : (j : ℕ) (t : List ℕ) (n v : ℕ) (c : Tree) → v < n → cut_at j (leaf t) n v ≡ Some c → ⊥
 cut_at-leaf_not j t n v c more e = let none = cut_at-leaf j t n v more in cc
 
-inverse : {A B : Type 0} (f : A → B) (o : Option A) (y : B) → option_map f o ≡ Some y → (x : A) × (o ≡ Some x) × (f x ≡ y)
+inverse : {A B : Type 0} (f : A → B) (o : Option A) (y : B) → option_map f o ≡ Some y
+    → (x : A) × (o ≡ Some x) × (f x ≡ y)
 inverse f None y e = absurd cc
 inverse f (Some x) y e = (x, refl, cc)
 
 -- what is cut of a node is a node over what is cut of one of its halves
-pub cut_at-left_inv : (j : ℕ) (l r : Tree) (n v : ℕ) (c : Tree) → v < n → v ≤ 2 ^ j → cut_at (suc j) (node l r) n v ≡ Some c → (b : Tree) × (cut_at j l (2 ^ j) v ≡ Some b) × (single b ≡ c)
-cut_at-left_inv j l r n v c more low e = inverse (λ b. single b) (cut_at j l (2 ^ j) v) c (sym (cut_at-node_left j l r n v more low) ∙ e)
+pub cut_at-left_inv : (j : ℕ) (l r : Tree) (n v : ℕ) (c : Tree) → v < n → v ≤ 2 ^ j
+    → cut_at (suc j) (node l r) n v ≡ Some c → (b : Tree) × (cut_at j l (2 ^ j) v ≡ Some b) × (single b ≡ c)
+cut_at-left_inv j l r n v c more low e =
+    inverse (λ b. single b) (cut_at j l (2 ^ j) v) c (sym (cut_at-node_left j l r n v more low) ∙ e)
 
-pub cut_at-right_inv : (j : ℕ) (l r : Tree) (n v : ℕ) (c : Tree) → v < n → 2 ^ j < v → cut_at (suc j) (node l r) n v ≡ Some c → (b : Tree) × (cut_at j r (n - 2 ^ j) (v - 2 ^ j) ≡ Some b) × (node l b ≡ c)
-cut_at-right_inv j l r n v c more high e = inverse (λ b. node l b) (cut_at j r (n - 2 ^ j) (v - 2 ^ j)) c (sym (cut_at-node_right j l r n v more high) ∙ e)
+pub cut_at-right_inv : (j : ℕ) (l r : Tree) (n v : ℕ) (c : Tree) → v < n → 2 ^ j < v
+    → cut_at (suc j) (node l r) n v ≡ Some c
+    → (b : Tree) × (cut_at j r (n - 2 ^ j) (v - 2 ^ j) ≡ Some b) × (node l b ≡ c)
+cut_at-right_inv j l r n v c more high e =
+    inverse (λ b. node l b) (cut_at j r (n - 2 ^ j) (v - 2 ^ j)) c (sym (cut_at-node_right j l r n v more high) ∙ e)
 
-pub cut_at-single_inv : (j : ℕ) (l : Tree) (n v : ℕ) (c : Tree) → v < n → cut_at (suc j) (single l) n v ≡ Some c → (b : Tree) × (cut_at j l n v ≡ Some b) × (single b ≡ c)
+pub cut_at-single_inv : (j : ℕ) (l : Tree) (n v : ℕ) (c : Tree) → v < n → cut_at (suc j) (single l) n v ≡ Some c
+    → (b : Tree) × (cut_at j l n v ≡ Some b) × (single b ≡ c)
 cut_at-single_inv j l n v c more e = inverse (λ b. single b) (cut_at j l n v) c (sym (cut_at-single j l n v more) ∙ e)
 
 -- ---- cut_in
@@ -165,7 +182,8 @@ pub cut_in-up : (j : ℕ) (p : Tree) (n v : ℕ) → 2 ^ j < v → cut_in (suc j
 unfolding cut_in
 cut_in-up j p n v high = rw (lt-ltb (2 ^ j) v high) refl
 
-pub cut_in-down : (j : ℕ) (p : Tree) (n v : ℕ) → v ≤ 2 ^ j → cut_in (suc j) p n v ≡ in_left (λ l. cut_in j l (2 ^ j) v) p
+pub cut_in-down : (j : ℕ) (p : Tree) (n v : ℕ) → v ≤ 2 ^ j
+    → cut_in (suc j) p n v ≡ in_left (λ l. cut_in j l (2 ^ j) v) p
 unfolding cut_in
 cut_in-down j p n v low = rw (le-ltb (2 ^ j) v low) refl
 
@@ -180,7 +198,8 @@ cut_in-here zero p n v above high = absurd (omega arith)
 cut_in-here (suc j) p n v above high =
     let below : suc j - 1 ≡ j = omega arith in rw (lt-ltb (2 ^ j) v (rw below at high)) refl
 
-pub cut_in-node : (j : ℕ) (l r : Tree) (n v : ℕ) → 0 < j → v ≤ 2 ^ (j - 1) → cut_in j (node l r) n v ≡ cut_in (j - 1) l (2 ^ (j - 1)) v
+pub cut_in-node : (j : ℕ) (l r : Tree) (n v : ℕ) → 0 < j → v ≤ 2 ^ (j - 1)
+    → cut_in j (node l r) n v ≡ cut_in (j - 1) l (2 ^ (j - 1)) v
 unfolding cut_in
 cut_in-node zero l r n v above low = absurd (omega arith)
 cut_in-node (suc j) l r n v above low =
@@ -231,13 +250,15 @@ unfolding shown_at
 shown_at-single_low zero l k low = refl
 shown_at-single_low (suc j) l k low = absurd (omega arith)
 
-pub shown_at-left : (j : ℕ) (l r : Tree) (k : ℕ) → 0 < j → k < 2 ^ (j - 1) → shown_at j (node l r) k ≡ shown_at (j - 1) l k
+pub shown_at-left : (j : ℕ) (l r : Tree) (k : ℕ) → 0 < j → k < 2 ^ (j - 1)
+    → shown_at j (node l r) k ≡ shown_at (j - 1) l k
 unfolding shown_at
 shown_at-left zero l r k above low = absurd (omega arith)
 shown_at-left (suc j) l r k above low =
     let below : suc j - 1 ≡ j = omega arith in rw (below, lt-ltb k (2 ^ j) (rw below at low)) refl
 
-pub shown_at-right : (j : ℕ) (l r : Tree) (k : ℕ) → 0 < j → 2 ^ (j - 1) ≤ k → shown_at j (node l r) k ≡ shown_at (j - 1) r (k - 2 ^ (j - 1))
+pub shown_at-right : (j : ℕ) (l r : Tree) (k : ℕ) → 0 < j → 2 ^ (j - 1) ≤ k
+    → shown_at j (node l r) k ≡ shown_at (j - 1) r (k - 2 ^ (j - 1))
 unfolding shown_at
 shown_at-right zero l r k above high = absurd (omega arith)
 shown_at-right (suc j) l r k above high =
@@ -251,4 +272,5 @@ shown_at-only (suc j) l k above = let below : suc j - 1 ≡ j = omega arith in r
 pub ruleset shown_steps = (tree_views, shown_at-hidden, shown_at-leaf_low, shown_at-leaf_high, shown_at-node_low, shown_at-single_low, shown_at-left, shown_at-right, shown_at-only)
 
 pub ruleset cut_steps = (tree_views, cut_at-whole, cut_at-low, cut_at-hidden, cut_at-leaf, cut_at-left, cut_at-right, cut_at-only)
+
 pub ruleset cut_in_steps = (tree_views, cut_in-low, cut_in-here, cut_in-node, cut_in-hidden, cut_in-leaf, cut_in-single)

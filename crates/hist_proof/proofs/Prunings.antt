@@ -1,22 +1,14 @@
 -- What prunes a list: its size, its digest, the texts that it shows, and what is cut of it.
-use Rattle.std.proofs.Common.{◌≡◌, ◌⊎◌, ℕ, zero, suc, ◌+◌, ◌-◌, ◌^◌, ◌<◌, ◌≤◌, Bool, true, false, ◌&&◌, List, [], ◌∷◌, ◌++◌, length, take, drop, get_or, Option, Some, None, refl, ap, sym, subst, ◌∙◌, inl, inr, arith}
-use Rattle.std.specs.Prelude.{nat_lt}
-use Rattle.std.proofs.lemmas.Bool.{and_from, and_parts, cases_lt, lt-ltb, le-ltb, ltb-true, ltb-false}
-use Rattle.std.proofs.lemmas.Bool.Decides.{not_from_Decides}
-use Rattle.std.proofs.lemmas.List.{drop-take, get_or-drop, get_or-take, length-drop, length-take-le, take-append-drop, take-take, take_all}
-use Rattle.std.proofs.lemmas.Nat.{pow_pos}
-use Rattle.std.proofs.lemmas.Slice.Eq.{bytes_eq-Decides}
-use Rattle.std.proofs.Math.Nat.{pow-suc}
+use Rattle.std.proofs.Common.{◌≡◌, ℕ, zero, suc, ◌+◌, ◌-◌, ◌^◌, ◌<◌, ◌≤◌, true, List, [], ◌∷◌, ◌++◌, length, take, drop, get_or, Some, refl, ap, sym, ◌∙◌, inl, inr, arith}
+use Rattle.std.proofs.lemmas.Bool.{and_from, cases_lt, lt-ltb, le-ltb}
+use Rattle.std.proofs.lemmas.List.{drop-take, get_or-drop, get_or-take, length-drop, length-take-le, take-take, take_all}
 use Rattle.std.proofs.Math.Pow.{pow_mono}
-use Rattle.std.specs.Str.{bytes_eq}
-use Rattle.std.proofs.lemmas.Bool.{cases_Bool}
-use Rattle.fr_digest.specs.Collision.{Collides, Strings}
-use Rattle.fr_digest.specs.Digest.{Digest, IsDigest}
-use Rattle.tree_model.proofs.HistoryLaws.{depth-is, depth-one, length-part, part-leaf, part-pair, part-single}
-use Rattle.tree_model.specs.History.{depth, leaf_string, pair_string, part, single_string}
+use Rattle.fr_digest.specs.Digest.{Digest}
+use Rattle.tree_model.proofs.HistoryLaws.{depth-is, depth-one, part-leaf, part-pair, part-single}
+use Rattle.tree_model.specs.History.{depth, part}
 use Rattle.hist_proof.specs.Pruned.{Tree, hidden, leaf, node, single, PrunesAt, cut_at, cut_in, digest_of, fits_at, in_left}
-use Rattle.hist_proof.specs.Shown.{HasCollision, HasDigests, shown_at}
-use Rattle.hist_proof.proofs.Halving.{cut_at-all, cut_at-hidden_not, cut_at-leaf_not, cut_at-left_inv, cut_at-low_not, cut_at-right_inv, cut_at-single_inv, cut_in-down, cut_in-low, cut_in-up, fits_at-hidden, fits_at-leaf_low, fits_at-node, fits_at-single}
+use Rattle.hist_proof.specs.Shown.{shown_at}
+use Rattle.hist_proof.proofs.Halving.{cut_at-all, cut_at-hidden_not, cut_at-left_inv, cut_at-low_not, cut_at-right_inv, cut_at-single_inv, cut_in-down, cut_in-low, cut_in-up, fits_at-hidden, fits_at-leaf_low, fits_at-node, fits_at-single}
 
 -- ---- lists
 
@@ -42,7 +34,8 @@ append-split (x ∷ xs) ys (x' ∷ xs') ys' same joined =
 
 -- ---- the size
 
-pub prunes_at-fits : (d : Digest) (j : ℕ) (p : Tree) (M : List (List ℕ)) → PrunesAt d j p M → fits_at j p (length M) ≡ true
+pub prunes_at-fits : (d : Digest) (j : ℕ) (p : Tree) (M : List (List ℕ)) → PrunesAt d j p M
+    → fits_at j p (length M) ≡ true
 unfolding PrunesAt
 prunes_at-fits d zero (hidden x) M h = fits_at-hidden 0 x (length M)
 prunes_at-fits d (suc j) (hidden x) M h = fits_at-hidden (suc j) x (length M)
@@ -61,7 +54,8 @@ prunes_at-fits d (suc j) (single l) M h = fits_at-single j l (length M) h.0 ∙ 
 
 -- ---- the digest
 
-pub prunes_at-digest : (d : Digest) (j : ℕ) (p : Tree) (M : List (List ℕ)) → PrunesAt d j p M → digest_of d p ≡ part d j M
+pub prunes_at-digest : (d : Digest) (j : ℕ) (p : Tree) (M : List (List ℕ)) → PrunesAt d j p M
+    → digest_of d p ≡ part d j M
 unfolding PrunesAt digest_of
 prunes_at-digest d zero (hidden x) M h = h
 prunes_at-digest d (suc j) (hidden x) M h = h
@@ -78,7 +72,8 @@ prunes_at-digest d (suc j) (single l) M h =
 
 -- ---- what is shown is the list's
 
-pub prunes_at-shown : (d : Digest) (j : ℕ) (p : Tree) (M : List (List ℕ)) (k : ℕ) (t : List ℕ) → PrunesAt d j p M → k < length M → shown_at j p k ≡ Some t → t ≡ get_or M k []
+pub prunes_at-shown : (d : Digest) (j : ℕ) (p : Tree) (M : List (List ℕ)) (k : ℕ) (t : List ℕ)
+    → PrunesAt d j p M → k < length M → shown_at j p k ≡ Some t → t ≡ get_or M k []
 unfolding PrunesAt shown_at
 prunes_at-shown d zero (hidden x) M k t h within e = absurd cc
 prunes_at-shown d (suc j) (hidden x) M k t h within e = absurd cc
@@ -106,7 +101,8 @@ prunes_at-shown d (suc j) (single l) M k t h within e = prunes_at-shown d j l M 
 
 -- ---- what is cut
 
-pub prunes_at-cut : (d : Digest) (j : ℕ) (p : Tree) (M : List (List ℕ)) (v : ℕ) (c : Tree) → v ≤ length M → PrunesAt d j p M → cut_at j p (length M) v ≡ Some c → PrunesAt d j c (take v M)
+pub prunes_at-cut : (d : Digest) (j : ℕ) (p : Tree) (M : List (List ℕ)) (v : ℕ) (c : Tree) → v ≤ length M
+    → PrunesAt d j p M → cut_at j p (length M) v ≡ Some c → PrunesAt d j c (take v M)
 unfolding PrunesAt
 prunes_at-cut d zero p M v c within h e =
     elim (cases_lt v (length M)) [
@@ -150,14 +146,16 @@ prunes_at-cut d (suc j) (single l) M v c within h e =
 
 -- the height of a version that goes past the left half of a tree
 pub depth-past : (j v : ℕ) → 2 ^ j < v → v ≤ 2 ^ suc j → depth v ≡ suc j
-depth-past j v high fits = depth-is v (suc j) fits (λ i less. let smaller = pow_mono {i = i} {j = j} (omega arith) in omega arith)
+depth-past j v high fits =
+    depth-is v (suc j) fits (λ i less. let smaller = pow_mono {i = i} {j = j} (omega arith) in omega arith)
 
 -- a version of one position
 pub depth-first : (n v : ℕ) → 0 < v → v ≤ n → n ≤ 2 ^ 0 → depth v ≡ 0
 depth-first n v some within fits = let one : v ≡ 1 = omega arith in rw one depth-one
 
 -- a version that the left half holds, where the law stands for the left half
-prunes_at-in_left : (d : Digest) (j : ℕ) (p : Tree) (M : List (List ℕ)) (v : ℕ) (c : Tree) → 0 < v → v ≤ 2 ^ j → PrunesAt d (suc j) p M
+prunes_at-in_left : (d : Digest) (j : ℕ) (p : Tree) (M : List (List ℕ)) (v : ℕ) (c : Tree) → 0 < v → v ≤ 2 ^ j
+    → PrunesAt d (suc j) p M
     → ((l : Tree) (N : List (List ℕ)) → length N ≡ 2 ^ j → PrunesAt d j l N → cut_in j l (length N) v ≡ Some c → PrunesAt d (depth v) c (take v N))
     → in_left (λ l. cut_in j l (2 ^ j) v) p ≡ Some c → PrunesAt d (depth v) c (take v M)
 unfolding PrunesAt
@@ -169,7 +167,9 @@ prunes_at-in_left d j (node l r) M v c some low h left e =
     rw (take-take v (2 ^ j) M low) at (left l (take (2 ^ j) M) len h.1 (rw (← len) at e))
 prunes_at-in_left d j (single l) M v c some low h left e = absurd cc
 
-pub prunes_at-cut_in : (d : Digest) (j : ℕ) (p : Tree) (M : List (List ℕ)) (v : ℕ) (c : Tree) → 0 < v → v ≤ length M → length M ≤ 2 ^ j → PrunesAt d j p M → cut_in j p (length M) v ≡ Some c → PrunesAt d (depth v) c (take v M)
+pub prunes_at-cut_in : (d : Digest) (j : ℕ) (p : Tree) (M : List (List ℕ)) (v : ℕ) (c : Tree) → 0 < v
+    → v ≤ length M → length M ≤ 2 ^ j → PrunesAt d j p M → cut_in j p (length M) v ≡ Some c
+    → PrunesAt d (depth v) c (take v M)
 prunes_at-cut_in d zero p M v c some within fits h e =
     rw (depth-first (length M) v some within fits) (prunes_at-cut d 0 p M v c within h (sym (cut_in-low 0 p (length M) v refl) ∙ e))
 prunes_at-cut_in d (suc j) p M v c some within fits h e =

@@ -1,6 +1,9 @@
 -- That reading and spelling of pruned trees agree, and what follows of it.
-use Rattle.std.proofs.Common.{◌≡◌, ◌⊎◌, ℕ, zero, suc, ◌<◌, List, [], ◌∷◌, ◌++◌, length, Result, Ok, Err, refl, ap, sym, ◌∙◌, inl, inr, arith, lit<}
-use Rattle.std.specs.Prelude.{IfOk, IsErrOf}
+use Rattle.std.proofs.Common.{◌≡◌, ℕ, zero, suc, ◌-◌, ◌^◌, ◌<◌, [], ◌∷◌, ◌++◌, length, Option, None, Some, Result, Ok, Err, refl, ap, sym, subst, ◌∙◌, inl, inr, arith, lit<}
+use Rattle.std.specs.Option.{option_map}
+use Rattle.std.specs.Prelude.{IfOk, IfSome, IsErrOf}
+use Rattle.std.proofs.lemmas.Bool.{cases_lt}
+use Rattle.fr_bytes.specs.declared.refusals.NoMemory.{NoMemory}
 use Rattle.fr_bytes.specs.declared.refusals.ReadRefusal.{ReadRefusal}
 use Rattle.fr_bytes.specs.declared.refusals.ReadRefusal.TheVariants as refusals
 use Rattle.fr_bytes.specs.Bytes.{IsBytes, Text}
@@ -13,10 +16,14 @@ use Rattle.fr_bytes.proofs.Parts.{exact_limited, exact_never, exact_tagged, exac
 use Rattle.fr_digest.specs.Digest.{digest_bytes}
 use Rattle.hist_proof.specs.declared.pruned.Pruned.{Pruned}
 use Rattle.hist_proof.specs.declared.limits.TheConstants.{HIDDEN_TAG, LEAF_TAG, NODE_TAG, SINGLE_TAG, LEAF_BYTES_MAX, LEVELS_MAX}
-use Rattle.hist_proof.specs.Pruned.{Tree, hidden, leaf, node, single}
+use Rattle.tree_model.specs.History.{depth}
+use Rattle.hist_proof.specs.Pruned.{Tree, hidden, leaf, node, single, cut, cut_at, cut_in}
 use Rattle.hist_proof.specs.Shown.{HasDigests}
-use Rattle.hist_proof.specs.Spelling.{HasCounts, IsDig, IsLeveled, IsNone, IsSpelled, IsTop, Spells, behind_at, cases_of, halves, hidden_at, leaf_at, leveled_format, node_at, none_at, pruned_at, pruned_format, rest_text, single_at, tag_of, top_at, tree_at, tree_text}
+use Rattle.hist_proof.specs.Spelling.{HasCounts, IsLeveled, IsNone, IsSpelled, IsTop, Spells, behind_at, cases_of, halves, hidden_at, leaf_at, leveled_format, node_at, none_at, pruned_at, pruned_format, rest_text, single_at, tag_of, top_at, tree_at, tree_text}
 use Rattle.hist_proof.specs.View.{tree_view}
+use Rattle.hist_proof.proofs.Fronts.{left_some}
+use Rattle.hist_proof.proofs.Halving.{cut_at-all, cut_at-hidden_not, cut_at-leaf_not, cut_at-left_inv, cut_at-low_not, cut_at-right_inv, cut_at-single_inv, cut_in-down, cut_in-low, cut_in-up}
+use Rattle.hist_proof.proofs.Trees.{cut-is}
 
 -- ---- the tags
 
@@ -71,11 +78,13 @@ module _ (IsBelow : Tree → Type 0) (below : Reader Tree) where
 
   exact_hidden : IsExact (format (Tagged HIDDEN_TAG) rest_text hidden_at)
   unfolding hidden_at
-  exact_hidden = exact_as (piece digest_bytes) (Tagged HIDDEN_TAG) rest_text hidden (exact_piece digest_bytes) (λ x h. ((h, refl), refl)) of_hidden
+  exact_hidden =
+      exact_as (piece digest_bytes) (Tagged HIDDEN_TAG) rest_text hidden (exact_piece digest_bytes) (λ x h. ((h, refl), refl)) of_hidden
 
   exact_leaf : IsExact (format (Tagged LEAF_TAG) rest_text leaf_at)
   unfolding leaf_at
-  exact_leaf = exact_as (limited LEAF_BYTES_MAX) (Tagged LEAF_TAG) rest_text leaf (exact_limited LEAF_BYTES_MAX (lit< tt)) (λ t h. ((h, refl), refl)) of_leaf
+  exact_leaf =
+      exact_as (limited LEAF_BYTES_MAX) (Tagged LEAF_TAG) rest_text leaf (exact_limited LEAF_BYTES_MAX (lit< tt)) (λ t h. ((h, refl), refl)) of_leaf
 
   module _ (exact : IsExact (format IsBelow tree_text below)) where
     exact_node : IsExact (format (Tagged NODE_TAG) rest_text (node_at below))
@@ -87,7 +96,8 @@ module _ (IsBelow : Tree → Type 0) (below : Reader Tree) where
 
     exact_single : IsExact (format (Tagged SINGLE_TAG) rest_text (single_at below))
     unfolding single_at
-    exact_single = exact_as (format IsBelow tree_text below) (Tagged SINGLE_TAG) rest_text single exact (λ l h. ((h, refl), refl)) of_single
+    exact_single =
+        exact_as (format IsBelow tree_text below) (Tagged SINGLE_TAG) rest_text single exact (λ l h. ((h, refl), refl)) of_single
 
     exact_tags : IsExact (format (IsTop IsBelow) (λ p. tag_of p ∷ rest_text p) (top_at below))
     unfolding behind_at
@@ -113,12 +123,15 @@ exact_pruned = exact_levels LEVELS_MAX
 
 -- ---- what a reader of all of the bytes answers
 
-pub found_spelled : (bytes : Text) (result : Result Pruned ReadRefusal) → IsBytes bytes → GivesAll tree_view result (all_of pruned_at bytes) → IfOk result (λ p. Spells (tree_view p) bytes)
+pub found_spelled : (bytes : Text) (result : Result Pruned ReadRefusal) → IsBytes bytes
+    → GivesAll tree_view result (all_of pruned_at bytes) → IfOk result (λ p. Spells (tree_view p) bytes)
 found_spelled bytes (Ok p) fits read =
     let it = all_found pruned_format exact_pruned bytes (tree_view p) fits read in record { is_spelled = it.0; text = it.1 }
 found_spelled bytes (Err e) fits read = tt
 
-pub only_spelled : (bytes : Text) (result : Result Pruned ReadRefusal) → GivesAll tree_view result (all_of pruned_at bytes) → IsErrOf result refusals.NotForm → (p : Tree) → Spells p bytes → ⊥
+pub only_spelled : (bytes : Text) (result : Result Pruned ReadRefusal)
+    → GivesAll tree_view result (all_of pruned_at bytes) → IsErrOf result refusals.NotForm → (p : Tree)
+    → Spells p bytes → ⊥
 only_spelled bytes (Ok x) read none p h = absurd cc
 only_spelled bytes (Err refusals.NotForm) read none p h =
     let again = all_again pruned_format exact_pruned p h.is_spelled in
@@ -165,3 +178,85 @@ digests_leveled (suc levels) (single l) h = digests_leveled levels l h
 pub digests_spelled : (p : Tree) → IsSpelled p → HasDigests p
 unfolding IsSpelled
 digests_spelled p h = digests_leveled LEVELS_MAX p h
+
+-- ---- what is cut has a spelling too
+
+leveled-more : (levels : ℕ) (p : Tree) → IsLeveled levels p → IsLeveled (suc levels) p
+unfolding IsLeveled
+leveled-more zero (hidden x) h = h
+leveled-more (suc levels) (hidden x) h = h
+leveled-more zero (leaf t) h = h
+leveled-more (suc levels) (leaf t) h = h
+leveled-more zero (node l r) h = absurd h.0
+leveled-more (suc levels) (node l r) h = (leveled-more levels l h.0, leveled-more levels r h.1)
+leveled-more zero (single l) h = absurd h
+leveled-more (suc levels) (single l) h = leveled-more levels l h
+
+-- the left half of a node in range
+left_leveled : (levels : ℕ) (l r : Tree) → IsLeveled levels (node l r) → IsLeveled levels l
+unfolding IsLeveled
+left_leveled zero l r h = absurd h.0
+left_leveled (suc levels) l r h = leveled-more levels l h.0
+
+cut_at-leveled : (levels j : ℕ) (p : Tree) (n v : ℕ) (c : Tree) → IsLeveled levels p → cut_at j p n v ≡ Some c
+    → IsLeveled levels c
+unfolding IsLeveled
+cut_at-leveled levels zero p n v c h e =
+    elim (cases_lt v n) [
+      | inl short ↦ absurd (cut_at-low_not p n v c short e)
+      | inr all ↦ subst (IsLeveled levels) (cut_at-all 0 p n v c all e) h
+    ]
+cut_at-leveled levels (suc j) (hidden x) n v c h e =
+    elim (cases_lt v n) [
+      | inl short ↦ absurd (cut_at-hidden_not (suc j) x n v c short e)
+      | inr all ↦ subst (IsLeveled levels) (cut_at-all (suc j) (hidden x) n v c all e) h
+    ]
+cut_at-leveled levels (suc j) (leaf t) n v c h e =
+    elim (cases_lt v n) [
+      | inl short ↦ absurd (cut_at-leaf_not (suc j) t n v c short e)
+      | inr all ↦ subst (IsLeveled levels) (cut_at-all (suc j) (leaf t) n v c all e) h
+    ]
+cut_at-leveled zero (suc j) (node l r) n v c h e = absurd h.0
+cut_at-leveled (suc levels) (suc j) (node l r) n v c h e =
+    elim (cases_lt v n) [
+      | inl short ↦ elim (cases_lt (2 ^ j) v) [
+        | inl high ↦
+            let inv = cut_at-right_inv j l r n v c short high e in
+            subst (IsLeveled (suc levels)) inv.2 (h.0, cut_at-leveled levels j r (n - 2 ^ j) (v - 2 ^ j) inv.0 h.1 inv.1)
+        | inr low ↦
+            let inv = cut_at-left_inv j l r n v c short low e in
+            subst (IsLeveled (suc levels)) inv.2 (cut_at-leveled levels j l (2 ^ j) v inv.0 h.0 inv.1)
+      ]
+      | inr all ↦ subst (IsLeveled (suc levels)) (cut_at-all (suc j) (node l r) n v c all e) h
+    ]
+cut_at-leveled zero (suc j) (single l) n v c h e = absurd h
+cut_at-leveled (suc levels) (suc j) (single l) n v c h e =
+    elim (cases_lt v n) [
+      | inl short ↦
+          let inv = cut_at-single_inv j l n v c short e in
+          subst (IsLeveled (suc levels)) inv.2 (cut_at-leveled levels j l n v inv.0 h inv.1)
+      | inr all ↦ subst (IsLeveled (suc levels)) (cut_at-all (suc j) (single l) n v c all e) h
+    ]
+
+cut_in-leveled : (levels j : ℕ) (p : Tree) (n v : ℕ) (c : Tree) → IsLeveled levels p → cut_in j p n v ≡ Some c
+    → IsLeveled levels c
+cut_in-leveled levels zero p n v c h e = cut_at-leveled levels 0 p n v c h (sym (cut_in-low 0 p n v refl) ∙ e)
+cut_in-leveled levels (suc j) p n v c h e =
+    elim (cases_lt (2 ^ j) v) [
+      | inl high ↦ cut_at-leveled levels (suc j) p n v c h (sym (cut_in-up j p n v high) ∙ e)
+      | inr low ↦
+          let inv = left_some (λ l. cut_in j l (2 ^ j) v) p c (sym (cut_in-down j p n v low) ∙ e) in
+          cut_in-leveled levels j inv.0 (2 ^ j) v c (left_leveled levels inv.0 inv.1 (subst (IsLeveled levels) inv.2 h)) inv.3
+    ]
+
+pub cut-spelled : (p : Tree) (n v : ℕ) (c : Tree) → IsSpelled p → cut p n v ≡ Some c → IsSpelled c
+unfolding IsSpelled
+cut-spelled p n v c h e = cut_in-leveled LEVELS_MAX (depth n) p n v c h (cut-is p n v c e).here
+
+-- the same, of what the program cuts
+pub cuts_spelled : (p : Tree) (n v : ℕ) (result : Result (Option Pruned) NoMemory)
+    → IfOk result (λ c. option_map tree_view c ≡ cut p n v) → IsSpelled p
+    → IfOk result (λ c. IfSome c (λ q. IsSpelled (tree_view q)))
+cuts_spelled p n v (Ok None) h spelled = tt
+cuts_spelled p n v (Ok (Some q)) h spelled = cut-spelled p n v (tree_view q) spelled (sym h)
+cuts_spelled p n v (Err e) h spelled = tt

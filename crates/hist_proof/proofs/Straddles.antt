@@ -1,13 +1,13 @@
 -- There is a cut exactly where the version ends within no hidden part.
-use Rattle.std.proofs.Common.{◌≡◌, ◌⊎◌, ℕ, zero, suc, ◌+◌, ◌-◌, ◌^◌, ◌<◌, ◌≤◌, Bool, true, false, ◌&&◌, ◌||◌, List, Option, Some, None, refl, ap, sym, ◌∙◌, inl, inr, arith}
+use Rattle.std.proofs.Common.{◌≡◌, ◌⊎◌, ℕ, zero, suc, ◌+◌, ◌-◌, ◌^◌, ◌<◌, ◌≤◌, Bool, true, false, ◌||◌, Option, Some, None, refl, ap, inl, inr, arith}
 use Rattle.std.specs.Option.{option_map}
 use Rattle.std.proofs.lemmas.Bool.{cases_lt, lt-ltb, le-ltb}
 use Rattle.std.proofs.Math.Nat.{pow-suc}
 use Rattle.std.proofs.Math.Pow.{pow-lt}
-use Rattle.hist_proof.specs.Pruned.{Tree, hidden, leaf, node, single, cut_at, cut_in, fits_at, in_left}
+use Rattle.hist_proof.specs.Pruned.{Tree, hidden, leaf, node, single, cut_at, cut_in, fits_at}
 use Rattle.hist_proof.specs.Shown.{is_within, straddled_at}
 use Rattle.hist_proof.proofs.Fronts.{fits_node-is, fits_single-is}
-use Rattle.hist_proof.proofs.Halving.{cut_at-hidden, cut_at-node_left, cut_at-node_right, cut_at-single, cut_at-whole, cut_in-down, cut_in-low, cut_in-up, fits_at-leaf_high, fits_at-node_low, fits_at-single_low}
+use Rattle.hist_proof.proofs.Halving.{cut_at-hidden, cut_at-node_left, cut_at-node_right, cut_at-single, cut_at-whole, cut_in-down, cut_in-low, cut_in-up, fits_at-leaf_high}
 
 within-past : (a n w : ℕ) → a + n ≤ w → is_within a n w ≡ false
 within-past a n w past = elim (cases_lt a w) [
@@ -61,14 +61,16 @@ tells_map b f o (inr some) = inr (some.0, (f some.1.0, ap (option_map f) some.1.
 tells_along : (b b' : Bool) (o o' : Option Tree) → b' ≡ b → o' ≡ o → Tells b o → Tells b' o'
 tells_along b b' o o' same same' h = rw (same, same') h
 
-tells_whole : (j : ℕ) (p : Tree) (a n v : ℕ) → fits_at j p n ≡ true → n ≤ v → Tells (straddled_at j p a n (a + v)) (cut_at j p n v)
+tells_whole : (j : ℕ) (p : Tree) (a n v : ℕ) → fits_at j p n ≡ true → n ≤ v
+    → Tells (straddled_at j p a n (a + v)) (cut_at j p n v)
 tells_whole j p a n v h all = inr (past j p a n (a + v) h (omega arith), (p, cut_at-whole j p n v all))
 
 or_false : (b : Bool) → b || false ≡ b
 or_false true = refl
 or_false false = refl
 
-pub cut_at-tells : (j : ℕ) (p : Tree) (a n v : ℕ) → 0 < v → v ≤ n → n ≤ 2 ^ j → fits_at j p n ≡ true → Tells (straddled_at j p a n (a + v)) (cut_at j p n v)
+pub cut_at-tells : (j : ℕ) (p : Tree) (a n v : ℕ) → 0 < v → v ≤ n → n ≤ 2 ^ j → fits_at j p n ≡ true
+    → Tells (straddled_at j p a n (a + v)) (cut_at j p n v)
 unfolding straddled_at
 cut_at-tells zero p a n v some within few h = tells_whole 0 p a n v h (omega arith)
 cut_at-tells (suc j) (hidden x) a n v some within few h =
@@ -76,7 +78,8 @@ cut_at-tells (suc j) (hidden x) a n v some within few h =
       | inl short ↦ inl (rw (lt-ltb a (a + v) (omega arith), lt-ltb (a + v) (a + n) (omega arith)) refl, cut_at-hidden (suc j) x n v short)
       | inr all ↦ tells_whole (suc j) (hidden x) a n v h all
     ]
-cut_at-tells (suc j) (leaf t) a n v some within few h = let wrong = fits_at-leaf_high (suc j) t n (omega arith) in absurd cc
+cut_at-tells (suc j) (leaf t) a n v some within few h =
+    let wrong = fits_at-leaf_high (suc j) t n (omega arith) in absurd cc
 cut_at-tells (suc j) (node l r) a n v some within few h =
     let parts = fits_node-is j l r n h in
     let more = parts.more in
@@ -109,7 +112,8 @@ pub record IsHigh (j n : ℕ) : Type 0 where
 half-high : (j : ℕ) → IsHigh j (2 ^ j)
 half-high j = record { below = λ i less. pow-lt less }
 
-pub cut_in-tells : (j : ℕ) (p : Tree) (n v : ℕ) → 0 < v → v ≤ n → n ≤ 2 ^ j → IsHigh j n → fits_at j p n ≡ true → Tells (straddled_at j p 0 n v) (cut_in j p n v)
+pub cut_in-tells : (j : ℕ) (p : Tree) (n v : ℕ) → 0 < v → v ≤ n → n ≤ 2 ^ j → IsHigh j n → fits_at j p n ≡ true
+    → Tells (straddled_at j p 0 n v) (cut_in j p n v)
 unfolding straddled_at
 cut_in-tells zero p n v some within few high h =
     let start : v ≡ 0 + v = omega arith in
@@ -122,7 +126,8 @@ cut_in-tells (suc j) (hidden x) n v some within few high h =
           tells_along _ _ _ _ (ap (straddled_at (suc j) (hidden x) 0 n) start) (cut_in-up j (hidden x) n v up) (cut_at-tells (suc j) (hidden x) 0 n v some within few h)
       | inr low ↦ inl (rw (lt-ltb 0 v some, lt-ltb v (0 + n) (omega arith)) refl, cut_in-down j (hidden x) n v low)
     ]
-cut_in-tells (suc j) (leaf t) n v some within few high h = let wrong = fits_at-leaf_high (suc j) t n (omega arith) in absurd cc
+cut_in-tells (suc j) (leaf t) n v some within few high h =
+    let wrong = fits_at-leaf_high (suc j) t n (omega arith) in absurd cc
 cut_in-tells (suc j) (node l r) n v some within few high h =
     let parts = fits_node-is j l r n h in
     elim (cases_lt (2 ^ j) v) [

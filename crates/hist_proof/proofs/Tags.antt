@@ -1,10 +1,10 @@
 -- What is read at the front of a text, by its tag.
-use Rattle.std.proofs.Common.{◌≡◌, ◌≢◌, ℕ, zero, suc, ◌-◌, ◌<◌, Bool, true, false, List, [], ◌∷◌, Option, Some, None, refl, sym, inl, inr, arith}
+use Rattle.std.proofs.Common.{◌≡◌, ℕ, zero, suc, ◌-◌, ◌<◌, false, [], ◌∷◌, Some, None, refl, sym, inl, inr, arith}
 use Rattle.std.proofs.Math.Dec.{eqb}
 use Rattle.std.proofs.lemmas.Bool.Decides.{eqb_tells}
 use Rattle.fr_bytes.specs.Bytes.{Text}
 use Rattle.fr_bytes.specs.Reading.{Reader}
-use Rattle.hist_proof.specs.Pruned.{Tree, hidden, leaf, node, single}
+use Rattle.hist_proof.specs.Pruned.{Tree, node, single}
 use Rattle.hist_proof.specs.Spelling.{behind_at, hidden_at, leaf_at, node_at, none_at, single_at, tree_at}
 use Rattle.hist_proof.proofs.Views.{tree_views}
 
@@ -46,19 +46,23 @@ tree_at-single (suc j) bytes above = let below : suc j - 1 ≡ j = omega arith i
 differ-eqb : (a b : ℕ) → (a ≡ b → ⊥) → eqb a b ≡ false
 differ-eqb a b apart = elim (eqb_tells a b) [ inl same ↦ absurd (apart same.1) | inr not ↦ not.0 ]
 
-other_tag : (below : Reader Tree) (tag : ℕ) (bytes : Text) → (tag ≡ 0 → ⊥) → (tag ≡ 1 → ⊥) → (tag ≡ 2 → ⊥) → (tag ≡ 3 → ⊥) → behind_at below tag bytes ≡ None
+other_tag : (below : Reader Tree) (tag : ℕ) (bytes : Text) → (tag ≡ 0 → ⊥) → (tag ≡ 1 → ⊥) → (tag ≡ 2 → ⊥)
+    → (tag ≡ 3 → ⊥) → behind_at below tag bytes ≡ None
 unfolding behind_at
 other_tag below tag bytes n0 n1 n2 n3 =
     rw (differ-eqb 0 tag (λ e. n0 (sym e)), differ-eqb 1 tag (λ e. n1 (sym e)), differ-eqb 2 tag (λ e. n2 (sym e)), differ-eqb 3 tag (λ e. n3 (sym e))) refl
 
-pub tree_at-other : (j tag : ℕ) (bytes : Text) → (tag ≡ 0 → ⊥) → (tag ≡ 1 → ⊥) → (tag ≡ 2 → ⊥) → (tag ≡ 3 → ⊥) → tree_at j (tag ∷ bytes) ≡ None
+pub tree_at-other : (j tag : ℕ) (bytes : Text) → (tag ≡ 0 → ⊥) → (tag ≡ 1 → ⊥) → (tag ≡ 2 → ⊥) → (tag ≡ 3 → ⊥)
+    → tree_at j (tag ∷ bytes) ≡ None
 unfolding tree_at
 tree_at-other zero tag bytes n0 n1 n2 n3 = other_tag none_at tag bytes n0 n1 n2 n3
 tree_at-other (suc j) tag bytes n0 n1 n2 n3 = other_tag (tree_at j) tag bytes n0 n1 n2 n3
 
 -- ---- behind the tag of a node
 
-pub node_at-both : (below : Reader Tree) (bytes : Text) (l : Tree) (middle : Text) (r : Tree) (rest : Text) → below bytes ≡ Some (l, middle) → below middle ≡ Some (r, rest) → node_at below bytes ≡ Some (node l r, rest)
+pub node_at-both : (below : Reader Tree) (bytes : Text) (l : Tree) (middle : Text) (r : Tree) (rest : Text)
+    → below bytes ≡ Some (l, middle) → below middle ≡ Some (r, rest)
+    → node_at below bytes ≡ Some (node l r, rest)
 unfolding node_at
 node_at-both below bytes l middle r rest one two = rw (one, two) refl
 
@@ -66,11 +70,13 @@ pub node_at-no_left : (below : Reader Tree) (bytes : Text) → below bytes ≡ N
 unfolding node_at
 node_at-no_left below bytes one = rw one refl
 
-pub node_at-no_right : (below : Reader Tree) (bytes : Text) (l : Tree) (middle : Text) → below bytes ≡ Some (l, middle) → below middle ≡ None → node_at below bytes ≡ None
+pub node_at-no_right : (below : Reader Tree) (bytes : Text) (l : Tree) (middle : Text)
+    → below bytes ≡ Some (l, middle) → below middle ≡ None → node_at below bytes ≡ None
 unfolding node_at
 node_at-no_right below bytes l middle one two = rw (one, two) refl
 
-pub single_at-some : (below : Reader Tree) (bytes : Text) (l : Tree) (rest : Text) → below bytes ≡ Some (l, rest) → single_at below bytes ≡ Some (single l, rest)
+pub single_at-some : (below : Reader Tree) (bytes : Text) (l : Tree) (rest : Text)
+    → below bytes ≡ Some (l, rest) → single_at below bytes ≡ Some (single l, rest)
 unfolding single_at
 single_at-some below bytes l rest one = rw one refl
 

@@ -1,13 +1,13 @@
 -- The laws of whole pruned trees, from those of their parts.
-use Rattle.std.proofs.Common.{◌≡◌, ◌⊎◌, ℕ, zero, suc, ◌-◌, ◌^◌, ◌<◌, ◌≤◌, Bool, true, false, not, ◌&&◌, List, length, take, drop, get_or, [], Option, Some, None, IsSome, ◌↔◌, cond, refl, ap, sym, ◌∙◌, inl, inr, arith}
+use Rattle.std.proofs.Common.{◌≡◌, ◌⊎◌, ℕ, ◌<◌, ◌≤◌, Bool, true, false, not, ◌&&◌, List, length, take, [], Option, Some, None, IsSome, ◌↔◌, cond, refl, ap, sym, ◌∙◌, inl, inr, arith}
 use Rattle.std.specs.List.{slice_get}
 use Rattle.std.specs.Prelude.{nat_lt}
-use Rattle.std.proofs.lemmas.Bool.{and_from, and_parts, cases_Bool, lt-ltb, le-ltb, ltb-true, ltb-false}
+use Rattle.std.proofs.lemmas.Bool.{and_parts, cases_Bool, lt-ltb, le-ltb, ltb-true, ltb-false}
 use Rattle.std.proofs.lemmas.List.{length-take-le}
 use Rattle.std.proofs.lemmas.Option.{slice_get-get_or}
 use Rattle.fr_digest.specs.Digest.{Digest, IsDigest}
 use Rattle.tree_model.proofs.HistoryLaws.{depth-fits, depth-least, root-all, root_of_all-part}
-use Rattle.tree_model.specs.History.{depth, part, root, root_of_all}
+use Rattle.tree_model.specs.History.{depth, root, root_of_all}
 use Rattle.hist_proof.specs.Pruned.{Tree, Prunes, PrunesAt, at, cut, cut_in, digest_of, fits, fits_at, is_version}
 use Rattle.hist_proof.specs.Shown.{HasCollision, HasDigests, ShowsFrom, shown, shown_at, straddled}
 use Rattle.hist_proof.proofs.Agreement.{Shows, agrees_at, full_at, glue_in}
@@ -60,7 +60,8 @@ pub fits-made : (p : Tree) (n : ℕ) → 0 < n → fits_at (depth n) p n ≡ tru
 unfolding fits
 fits-made p n some parts = rw (lt-ltb 0 n some, parts) refl
 
-pub shown-is : (p : Tree) (n k : ℕ) (t : List ℕ) → shown p n k ≡ Some t → (fits p n ≡ true) × (k < n) × (shown_at (depth n) p k ≡ Some t)
+pub shown-is : (p : Tree) (n k : ℕ) (t : List ℕ) → shown p n k ≡ Some t
+    → (fits p n ≡ true) × (k < n) × (shown_at (depth n) p k ≡ Some t)
 unfolding shown
 shown-is p n k t e =
     let parts = under (fits p n && nat_lt k n) (shown_at (depth n) p k) t e in
@@ -79,13 +80,15 @@ prunes-fits d p M h = fits-made p (length M) h.some (prunes_at-fits d (depth (le
 pub prunes-digest : (d : Digest) (p : Tree) (M : List (List ℕ)) → Prunes d p M → digest_of d p ≡ root_of_all d M
 prunes-digest d p M h = prunes_at-digest d (depth (length M)) p M h.parts ∙ sym (root_of_all-part d M)
 
-pub prunes-texts : (d : Digest) (p : Tree) (M : List (List ℕ)) (k : ℕ) (t : List ℕ) → Prunes d p M → shown p (length M) k ≡ Some t → slice_get M k ≡ Some t
+pub prunes-texts : (d : Digest) (p : Tree) (M : List (List ℕ)) (k : ℕ) (t : List ℕ) → Prunes d p M
+    → shown p (length M) k ≡ Some t → slice_get M k ≡ Some t
 prunes-texts d p M k t h e =
     let it = shown-is p (length M) k t e in
     slice_get-get_or M k [] it.1 ∙ ap (λ (u : List ℕ). Some u) (sym (prunes_at-shown d (depth (length M)) p M k t h.parts it.1 it.2))
 
 -- what is cut of a pruning prunes the front of the list
-pub prunes-cut : (d : Digest) (p : Tree) (M : List (List ℕ)) (v : ℕ) (c : Tree) → Prunes d p M → cut p (length M) v ≡ Some c → Prunes d c (take v M)
+pub prunes-cut : (d : Digest) (p : Tree) (M : List (List ℕ)) (v : ℕ) (c : Tree) → Prunes d p M
+    → cut p (length M) v ≡ Some c → Prunes d c (take v M)
 prunes-cut d p M v c h e =
     let it = cut-is p (length M) v c e in
     let within = it.within in
@@ -133,7 +136,8 @@ cut-some p n v fitting some within free =
       | inr there ↦ rw (there.1.1) refl
     ]
 
-cut-free : (p : Tree) (n v : ℕ) → fits p n ≡ true → 0 < v → v ≤ n → (c : Tree) → cut p n v ≡ Some c → straddled p n v ≡ false
+cut-free : (p : Tree) (n v : ℕ) → fits p n ≡ true → 0 < v → v ≤ n → (c : Tree) → cut p n v ≡ Some c
+    → straddled p n v ≡ false
 cut-free p n v fitting some within c e =
     elim (cut-tells p n v fitting some within) [
       | inl none ↦ let other = none.1 in absurd cc
@@ -150,25 +154,29 @@ some-is : {A : Type 0} (o : Option A) → IsSome o → (x : A) × (o ≡ Some x)
 some-is None h = absurd cc
 some-is (Some x) h = (x, refl)
 
-pub cut-exactly : (p : Tree) (n v : ℕ) → IsSome (cut p n v) ↔ ((fits p n ≡ true) × (0 < v) × (v ≤ n) × (straddled p n v ≡ false))
+pub cut-exactly : (p : Tree) (n v : ℕ)
+    → IsSome (cut p n v) ↔ ((fits p n ≡ true) × (0 < v) × (v ≤ n) × (straddled p n v ≡ false))
 cut-exactly p n v = (
   λ h.
       let it = some-is (cut p n v) h in
       let is = cut-is p n v it.0 it.1 in
       (is.fitting, is.some, is.within, cut-free p n v is.fitting is.some is.within it.0 it.1),
-  λ h. cut-some p n v h.0 h.1 h.2 h.3)
+  λ h. cut-some p n v h.0 h.1 h.2 h.3,
+)
 
 -- ---- roots of versions
 
 -- a pruning of a list gives the roots of the list's versions
-pub at-root : (d : Digest) (p : Tree) (M : List (List ℕ)) (v : ℕ) → Prunes d p M → 0 < v → v ≤ length M → straddled p (length M) v ≡ false → at d p (length M) v ≡ Some (root d M v)
+pub at-root : (d : Digest) (p : Tree) (M : List (List ℕ)) (v : ℕ) → Prunes d p M → 0 < v → v ≤ length M
+    → straddled p (length M) v ≡ false → at d p (length M) v ≡ Some (root d M v)
 unfolding at
 at-root d p M v h some within free =
     let it = some-is (cut p (length M) v) (cut-some p (length M) v (prunes-fits d p M h) some within free) in
     let front = prunes-cut d p M v it.0 h it.1 in
     rw it.1 (ap (λ (x : List ℕ). Some x) (prunes-digest d it.0 (take v M) front ∙ sym (root-all d M v)))
 
-pub at-none : (d : Digest) (p : Tree) (n v : ℕ) → fits p n ≡ true → 0 < v → v ≤ n → straddled p n v ≡ true → at d p n v ≡ None
+pub at-none : (d : Digest) (p : Tree) (n v : ℕ) → fits p n ≡ true → 0 < v → v ≤ n → straddled p n v ≡ true
+    → at d p n v ≡ None
 unfolding at
 at-none d p n v fitting some within inside =
     elim (cut-tells p n v fitting some within) [
@@ -184,7 +192,8 @@ at-all d p n fitting = rw (cut-all p n fitting) refl
 -- ---- when a tree prunes a list
 
 -- equal digests: it prunes the list, or two strings collide
-pub agrees : (d : Digest) → ((m : List ℕ) → IsDigest (d m)) → (p : Tree) (M : List (List ℕ)) → HasDigests p → fits p (length M) ≡ true → digest_of d p ≡ root_of_all d M → Prunes d p M ⊎ HasCollision d
+pub agrees : (d : Digest) → ((m : List ℕ) → IsDigest (d m)) → (p : Tree) (M : List (List ℕ)) → HasDigests p
+    → fits p (length M) ≡ true → digest_of d p ≡ root_of_all d M → Prunes d p M ⊎ HasCollision d
 agrees d sized p M held fitting agree =
     let size = fits-is p (length M) fitting in
     elim (agrees_at d sized (depth (length M)) p M held size.some (depth-fits (length M)) size.parts (agree ∙ root_of_all-part d M)) [
@@ -192,7 +201,8 @@ agrees d sized p M held fitting agree =
       | inr collision ↦ inr collision
     ]
 
-shows-from : (p : Tree) (v : ℕ) (M : List (List ℕ)) → fits p (length M) ≡ true → ShowsFrom p v M → Shows (depth (length M)) p v M
+shows-from : (p : Tree) (v : ℕ) (M : List (List ℕ)) → fits p (length M) ≡ true → ShowsFrom p v M
+    → Shows (depth (length M)) p v M
 shows-from p v M fitting h = record {
   each = λ k le within. sym (shown-made p (length M) k fitting within) ∙ h k le within ∙ slice_get-get_or M k [] within;
 }
@@ -201,13 +211,22 @@ shows-from p v M fitting h = record {
 pub full : (d : Digest) (p : Tree) (M : List (List ℕ)) → fits p (length M) ≡ true → ShowsFrom p 0 M → Prunes d p M
 full d p M fitting shows =
     let size = fits-is p (length M) fitting in
-    record { some = size.some; parts = full_at d (depth (length M)) p M size.some (depth-fits (length M)) size.parts (shows-from p 0 M fitting shows) }
+    record {
+      some =
+          size.some;
+      parts = full_at d (depth (length M)) p M size.some (depth-fits (length M)) size.parts (shows-from p 0 M fitting shows);
+    }
 
 -- what is cut of it prunes the front, and it shows the rest
-pub glue : (d : Digest) (p : Tree) (M : List (List ℕ)) (v : ℕ) (c : Tree) → cut p (length M) v ≡ Some c → Prunes d c (take v M) → ShowsFrom p v M → Prunes d p M
+pub glue : (d : Digest) (p : Tree) (M : List (List ℕ)) (v : ℕ) (c : Tree) → cut p (length M) v ≡ Some c
+    → Prunes d c (take v M) → ShowsFrom p v M → Prunes d p M
 glue d p M v c e h shows =
     let it = cut-is p (length M) v c e in
     let size = fits-is p (length M) it.fitting in
     let len = length-take-le v M it.within in
     let front : PrunesAt d (depth v) c (take v M) = rw len at h.parts in
-    record { some = size.some; parts = glue_in d (depth (length M)) p M v c it.some it.within (depth-fits (length M)) size.parts it.here front (shows-from p v M it.fitting shows) }
+    record {
+      some =
+          size.some;
+      parts = glue_in d (depth (length M)) p M v c it.some it.within (depth-fits (length M)) size.parts it.here front (shows-from p v M it.fitting shows);
+    }

@@ -1,10 +1,10 @@
 -- What each value of the program stands for, by its kind.
-use Rattle.std.proofs.Common.{◌≡◌, ℕ, List, rules}
+use Rattle.std.proofs.Common.{◌≡◌, rules}
 use Rattle.std.specs.Box.{box_value}
 use Rattle.hist_proof.specs.declared.pruned.Pruned as pruned
 use Rattle.hist_proof.specs.declared.marks.Marks as kept
-use Rattle.hist_proof.specs.Pruned.{Tree, hidden, leaf, node, single}
-use Rattle.hist_proof.specs.Digested.{Marks, absent, mark_leaf, mark_node, mark_single}
+use Rattle.hist_proof.specs.Pruned.{hidden, leaf, node, single}
+use Rattle.hist_proof.specs.Digested.{absent, mark_leaf, mark_node, mark_single}
 use Rattle.hist_proof.specs.View.{tree_view, marks_view}
 
 pub tree_view-hidden : (x : _) → tree_view (pruned.Hidden x) ≡ hidden x
@@ -25,11 +25,13 @@ marks_view-absent = search (rules, kept.the_lemmas)
 pub marks_view-leaf : (x : _) → marks_view (kept.Leaf x) ≡ mark_leaf x
 marks_view-leaf x = search (rules, kept.the_lemmas)
 
-pub marks_view-node : (x a b : _) → marks_view (kept.Node x a b) ≡ mark_node x (marks_view (box_value a)) (marks_view (box_value b))
+pub marks_view-node : (x a b : _)
+    → marks_view (kept.Node x a b) ≡ mark_node x (marks_view (box_value a)) (marks_view (box_value b))
 marks_view-node x a b = search (rules, kept.the_lemmas)
 
 pub marks_view-single : (x a : _) → marks_view (kept.Single x a) ≡ mark_single x (marks_view (box_value a))
 marks_view-single x a = search (rules, kept.the_lemmas)
 
 pub ruleset tree_views = (tree_view-hidden, tree_view-leaf, tree_view-node, tree_view-single)
+
 pub ruleset marks_views = (marks_view-absent, marks_view-leaf, marks_view-node, marks_view-single)

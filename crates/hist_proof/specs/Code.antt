@@ -58,4 +58,8 @@ tree_code = code_by (List (ℕ × Text)) (coded_list (coded× coded_ℕ (coded_l
 
 abbrev pub sized_code : Coded Sized
 sized_code =
-    code_by (Tree × ℕ) (coded× tree_code coded_ℕ) (λ s. (s.tree, s.size)) (λ p. record { tree = p.0; size = p.1 }) (λ _. refl)
+    code_by (Tree × ℕ) (coded× tree_code coded_ℕ) (λ s. (s.tree, s.size)) (λ p. record {
+      tree =
+          p.0;
+      size = p.1;
+    }) (λ _. refl)

@@ -1,5 +1,5 @@
 -- The digests of the nodes of a pruned tree, beside the tree. d is the digest of strings.
-use Rattle.std.specs.Prelude.{◌≡◌, ℕ, ◌⊎◌, Option, Some, None}
+use Rattle.std.specs.Prelude.{◌≡◌, ℕ, ◌⊎◌}
 use Rattle.fr_bytes.specs.Bytes.{Text}
 use Rattle.fr_digest.specs.Digest.{Digest}
 use Rattle.hist_proof.specs.Pruned.{Tree, hidden, leaf, node, single, digest_of}

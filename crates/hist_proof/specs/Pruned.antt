@@ -3,7 +3,7 @@
 -- halving of the list: a node of height j + 1 has the first 2^j positions of its part on its left and the
 -- others on its right. The height of a tree of n leaves is `depth n`, so its top is cut at the greatest power
 -- of two below n. d is the digest of strings.
-use Rattle.std.specs.Prelude.{◌≡◌, ℕ, zero, suc, ◌-◌, ◌^◌, ◌<◌, ◌≤◌, Bool, true, false, not, ◌&&◌, ◌||◌, List, [], ◌∷◌, length, take, drop, Option, Some, None, nat_lt, if◌then◌else◌}
+use Rattle.std.specs.Prelude.{◌≡◌, ℕ, zero, suc, ◌-◌, ◌^◌, ◌<◌, ◌≤◌, Bool, true, false, not, ◌&&◌, List, [], ◌∷◌, length, take, drop, Option, Some, None, nat_lt, if◌then◌else◌}
 use Rattle.std.specs.Option.{option_map}
 use Rattle.fr_bytes.specs.Bytes.{Text}
 use Rattle.fr_digest.specs.Digest.{Digest}

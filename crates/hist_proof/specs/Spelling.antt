@@ -1,5 +1,5 @@
 -- The one spelling of each pruned tree, and what is read at the front of a text.
-use Rattle.std.specs.Prelude.{◌≡◌, ℕ, zero, suc, ◌<◌, ◌^◌, List, [], ◌∷◌, ◌++◌, length, Option, None}
+use Rattle.std.specs.Prelude.{◌≡◌, ℕ, zero, suc, ◌<◌, ◌^◌, List, [], ◌∷◌, ◌++◌, length, None}
 use Rattle.fr_bytes.specs.Bytes.{IsBytes, Text, counted}
 use Rattle.fr_bytes.specs.Reading.{Reader, piece_at, both_at, as_at}
 use Rattle.fr_bytes.specs.Format.{Format, format}

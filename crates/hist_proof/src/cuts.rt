@@ -1,7 +1,8 @@
 ghost use Rattle.hist_proof.specs.Pruned.{cut, cut_at, cut_in, node, single};
+ghost use Rattle.hist_proof.specs.Spelling.{IsSpelled};
 ghost use Rattle.hist_proof.specs.View.{tree_view};
 ghost use Rattle.std.specs.Option.{option_map};
-ghost use Rattle.std.specs.Prelude.{◌≡◌, ◌≤◌, IfOk};
+ghost use Rattle.std.specs.Prelude.{◌≡◌, ◌≤◌, IfOk, IfSome};
 
 use crate::pruned::Pruned;
 use crate::sizes::{fits, half};
@@ -55,12 +56,9 @@ fn single_of(alloc: Global, left: Option<Pruned>) -> Result<Option<Pruned>, NoMe
 }
 
 /// A node of a copy of this left half and this right half, where there is one.
-fn node_of(
-    alloc: Global,
-    left: &Pruned,
-    right: Option<Pruned>,
-) -> Result<Option<Pruned>, NoMemory>
-    ensures { IfOk result (λ p. option_map tree_view p ≡ option_map (λ c. node (tree_view left.now) c) (option_map tree_view right)) }
+fn node_of(alloc: Global, left: &Pruned, right: Option<Pruned>) -> Result<Option<Pruned>, NoMemory>
+    ensures { IfOk result (λ p. option_map tree_view p
+        ≡ option_map (λ c. node (tree_view left.now) c) (option_map tree_view right)) }
 {
     match right {
         None => Ok(None),
@@ -133,20 +131,23 @@ fn cut_in(
     }
 }
 
-/// The pruned tree of the first `v` leaves of a pruned tree of `size` leaves: `None` exactly where `p` isn't a
-/// pruned tree of this size, `v` is 0 or past the size, or version `v` ends within a hidden part. What it keeps
-/// of `p` is copied.
+/// The pruned tree of the first `v` leaves of any tree, where there is one.
 #[tactic(auto, unfolding(crate::specs::Pruned::cut))]
-pub fn cut(
-    alloc: Global,
-    p: &Pruned,
-    size: u64,
-    v: u64,
-) -> Result<Option<Pruned>, NoMemory>
+fn cut_any(alloc: Global, p: &Pruned, size: u64, v: u64) -> Result<Option<Pruned>, NoMemory>
     ensures { IfOk result (λ c. option_map tree_view c ≡ cut (tree_view p.now) size v) }
 {
     if v == 0 || size < v || !fits(p, size) {
         return Ok(None);
     }
     cut_in(alloc, p, depth_of(size), size, v)
+}
+
+/// The pruned tree of the first `v` leaves of a pruned tree of `size` leaves: `None` exactly where `p` isn't a
+/// pruned tree of this size, `v` is 0 or past the size, or version `v` ends within a hidden part. What it keeps
+/// of `p` is copied.
+pub fn cut(alloc: Global, p: &Pruned, size: u64, v: u64) -> Result<Option<Pruned>, NoMemory>
+    ensures value { IfOk result (λ c. option_map tree_view c ≡ cut (tree_view p.now) size v) }
+    ensures spelled { IsSpelled (tree_view p.now) → IfOk result (λ c. IfSome c (λ q. IsSpelled (tree_view q))) }
+{
+    cut_any(alloc, p, size, v)
 }

@@ -47,7 +47,8 @@ impl<D: Digester> DigestedTree<D> {
     /// The pruned tree `p` of `size` leaves, with its digests, and `None` exactly where it isn't one of this size.
     /// Each node is hashed once.
     pub fn new(alloc: Global, p: Pruned, size: u64) -> Result<Option<DigestedTree<D>>, NoMemory>
-        ensures { IfOk result (λ t. t ≡ (if fits (tree_view p) size then Some (record { tree = tree_view p; size = size }) else None)) }
+        ensures { IfOk result (λ t. t
+            ≡ (if fits (tree_view p) size then Some (record { tree = tree_view p; size = size }) else None)) }
     {
         if !fits(&p, size) {
             return Ok(None);

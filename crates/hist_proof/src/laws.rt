@@ -3,7 +3,8 @@ ghost use Rattle.fr_bytes.specs.Bytes.{Text};
 ghost use Rattle.hist_proof.specs.Pruned.{Prunes, Tree, at, cut, digest_of, fits};
 ghost use Rattle.hist_proof.specs.Shown.{HasCollision, HasDigests, ShowsFrom, shown, straddled};
 ghost use Rattle.hist_proof.specs.Spelling.{IsSpelled, Spells};
-ghost use Rattle.std.specs.Prelude.{◌≡◌, ◌↔◌, ◌⊎◌, ◌<◌, ◌≤◌, ℕ, List, IsSome, Some, false, true, length, slice_get, take};
+ghost use Rattle.std.specs.Prelude.{◌≡◌, ◌↔◌, ◌⊎◌, ◌<◌, ◌≤◌, ℕ, List, IsSome, Some, false, true, length};
+ghost use Rattle.std.specs.Prelude.{slice_get, take};
 ghost use Rattle.tree_model.specs.History.{root, root_of_all};
 
 use fr_digest::Digester;
@@ -17,12 +18,13 @@ pub fn prunings<D: Digester>()
         → shown p (length M) k ≡ Some t → slice_get M k ≡ Some t }
 {}
 
-/// What is cut of a pruned tree is one of the version's size and shows the same; it prunes the front of a list
-/// that the tree prunes; and a cut of it is the tree's own.
+/// What is cut of a pruned tree is one of the version's size and shows the same, and has a spelling where
+/// the tree has one; it prunes the front of a list that the tree prunes; and a cut of it is the tree's own.
 pub fn cuts<D: Digester>()
     ensures fits { (p : Tree) (n v : ℕ) (c : Tree) → cut p n v ≡ Some c → fits c v ≡ true }
     ensures texts { (p : Tree) (n v : ℕ) (c : Tree) (k : ℕ) → cut p n v ≡ Some c → k < v
         → shown c v k ≡ shown p n k }
+    ensures spelled { (p : Tree) (n v : ℕ) (c : Tree) → IsSpelled p → cut p n v ≡ Some c → IsSpelled c }
     ensures again { (p : Tree) (n v w : ℕ) (c : Tree) → cut p n v ≡ Some c → 0 < w → w ≤ v
         → cut c v w ≡ cut p n w }
     ensures front { (p : Tree) (M : List Text) (v : ℕ) (c : Tree) → Prunes D.digest_of p M

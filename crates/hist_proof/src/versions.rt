@@ -70,13 +70,7 @@ fn digest_short<D: Digester>(
 
 /// The digest of the first `v` positions of a tree of height `level` over `size`, at their own height.
 #[tactic(auto, using(crate::proofs::Halving::cut_in_steps))]
-fn digest_in<D: Digester>(
-    p: &Pruned,
-    marks: &Marks,
-    level: u32,
-    size: u64,
-    v: u64,
-) -> Option<Dig>
+fn digest_in<D: Digester>(p: &Pruned, marks: &Marks, level: u32, size: u64, v: u64) -> Option<Dig>
     requires levels { level ≤ 64 }
     requires marked { IsMarked D.digest_of (marks_view marks.now) (tree_view p.now) }
     ensures { result ≡ option_map (digest_of D.digest_of) (cut_in level (tree_view p.now) size v) }

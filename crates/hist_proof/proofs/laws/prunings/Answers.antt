@@ -1,4 +1,4 @@
-use Rattle.hist_proof.proofs.Trees.{prunes-digest, prunes-fits, prunes-texts, prunes-cut}
+use Rattle.hist_proof.proofs.Trees.{prunes-digest, prunes-fits, prunes-texts}
 use Rattle.hist_proof.proofs.laws.prunings.Goals as goal
 
 pub returns : goal.returns

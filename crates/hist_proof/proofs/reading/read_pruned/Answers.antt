@@ -3,7 +3,8 @@ use Rattle.hist_proof.proofs.Spellings.{found_spelled, only_spelled}
 use Rattle.hist_proof.proofs.reading.read_pruned.Goals as goal
 
 pub returns-clause-found : goal.returns-clause-found
-returns-clause-found c = found_spelled c.args.bytes.now c.whole_tree.result (λ i. omega (arith, c.type_inv.bytes i)) c.whole_tree.ensures
+returns-clause-found c =
+    found_spelled c.args.bytes.now c.whole_tree.result (λ i. omega (arith, c.type_inv.bytes i)) c.whole_tree.ensures
 
 pub returns-clause-not_form : goal.returns-clause-not_form
 returns-clause-not_form c = only_spelled c.args.bytes.now c.whole_tree.result c.whole_tree.ensures

@@ -1,7 +1,7 @@
 use Rattle.std.proofs.Common.{ap, rules, ◌∙◌}
 use Rattle.hist_proof.specs.Digested.{IsMarked}
 use Rattle.hist_proof.specs.View.{marks_view, tree_view}
-use Rattle.hist_proof.proofs.Views.{tree_view-node, tree_view-single}
+use Rattle.hist_proof.proofs.Views.{tree_view-node}
 use Rattle.hist_proof.proofs.versions.+digest_short.Goals as goal
 
 pub digest_short-requires : goal.digest_short-requires
