@@ -1,7 +1,6 @@
 ghost use Rattle.std.specs.Prelude.{◌≡◌, ◌++◌, ◌∷◌, [], length, vec_len, IfOk, OnOk, OnErr};
 
 use super::refusals::NoMemory;
-use std::alloc::Global;
 use std::marker::Model;
 
 /// A list of values, which contracts see as a list and nothing more.
@@ -50,11 +49,6 @@ impl<T> Sequence<T> {
         ensures { result.items ≡ self }
     {
         self.items
-    }
-
-    /// The allocator that the list keeps.
-    pub fn allocator(&self) -> Global {
-        *self.items.allocator()
     }
 
     /// How many values there are.
