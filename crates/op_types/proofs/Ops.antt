@@ -119,7 +119,7 @@ exact_signed size =
 abbrev view_rest : View → Text
 view_rest v = spelled_optional (is_signed v.size) signed_text (v.root, v.sig)
 
-exact_view : (wall : ℕ) → IsExact (view_format wall)
+pub exact_view : (wall : ℕ) → IsExact (view_format wall)
 unfolding view_at
 exact_view wall =
     exact_field (number_within w64 0 VIEW_SIZE_MAX) (IsView wall) (λ v. v.size) view_rest _

@@ -180,9 +180,14 @@ fn signed_at(alloc: Global, cur: &mut Cur<'_>, size: u64) -> Result<(Dig, Bytes)
     Ok((root, sig))
 }
 
+/// A view of a wall at the front of the bytes: its size and, where it shows something, its root and signature. The
+/// wall's number isn't spelled in it.
+///
+/// # Errors
+/// `NotForm` exactly where no view stands there; `NoMemory`.
 #[tactic(auto, unfolding(crate::specs::Reading::view_at))]
-fn view_at(alloc: Global, cur: &mut Cur<'_>, wall: u32) -> Result<View, ReadRefusal>
-    ensures { Gives (λ x. x) result cur.new (view_at wall cur.old) }
+pub fn view_at(alloc: Global, cur: &mut Cur<'_>, wall: u32) -> Result<View, ReadRefusal>
+    ensures read { Gives (λ x. x) result cur.new (view_at wall cur.old) }
 {
     let size = cur.u64_within(0, VIEW_SIZE_MAX)?;
     let (root, sig) = signed_at(alloc, cur, size)?;

@@ -57,9 +57,13 @@ fn put_kind(out: &mut Vec<u8>, kind: &Kind) -> Result<(), NoMemory>
     }
 }
 
-fn put_view(out: &mut Vec<u8>, view: &View) -> Result<(), NoMemory>
+/// Adds a view's spelling, without the number of its wall.
+///
+/// # Errors
+/// `NoMemory`; then a part of it may have been added.
+pub fn put_view(out: &mut Vec<u8>, view: &View) -> Result<(), NoMemory>
     requires { IsView view.now.wall view.now }
-    ensures { OnOk result (out.new.items ≡ out.old.items ++ view_text view.now) }
+    ensures added { OnOk result (out.new.items ≡ out.old.items ++ view_text view.now) }
 {
     put_u64(out, view.size)?;
     if view.size == 0 {

@@ -30,9 +30,19 @@ fn signer_of(alloc: Global, user: u8) -> Result<Signer, Fail>
     Ok(Signer::make(alloc, &[user; 32], &[0x40 + user; 16], pair()?)?)
 }
 
-fn listed(alloc: Global, signers: &[(u32, &Signer)]) -> Result<UserKeys, AllocError> {
+/// The signers of the users 1, 2 and 3.
+fn three_signers(alloc: Global) -> Result<Vec<Signer>, Fail> {
+    let mut signers = Vec::new(alloc);
+    for user in 1..4 {
+        signers.push(signer_of(alloc, user)?)?;
+    }
+    Ok(signers)
+}
+
+/// These users, each with the key of the signer in its place.
+fn listed(alloc: Global, users: &[u32], signers: &[Signer]) -> Result<UserKeys, AllocError> {
     let mut keys = Vec::new(alloc);
-    for (user, signer) in signers {
+    for (user, signer) in users.iter().zip(signers) {
         keys.push((*user, signer.public()))?;
     }
     Ok(Sequence::of(keys))
@@ -63,29 +73,65 @@ fn doing_as(signed: Op, other: Op) -> Op
     }
 }
 
+/// Whether a post of that author, signed by this signer, is tested as signed.
+fn is_signed_by(
+    alloc: Global,
+    keys: &UserKeys,
+    author: u8,
+    signer: &mut Signer,
+) -> Result<bool, Fail> {
+    let signed = sign_op(alloc, signer, unsigned(alloc, author, POST_A)?)?;
+    Ok(is_author_signed(alloc, keys, &signed)?)
+}
+
+/// Whether an operation of user 1 is tested as signed, that does this under the signature of a post "a".
+fn is_signed_doing(
+    alloc: Global,
+    keys: &UserKeys,
+    kind: &[u8],
+    signer: &mut Signer,
+) -> Result<bool, Fail> {
+    let signed = sign_op(alloc, signer, unsigned(alloc, 1, POST_A)?)?;
+    let changed = doing_as(signed, unsigned(alloc, 1, kind)?);
+    Ok(is_author_signed(alloc, keys, &changed)?)
+}
+
+/// The author, the place of the signer, and whether its signature counts where the users 1 and 2 are listed.
+const SIGNATURES: &[(u8, usize, bool)] = &[
+    (1, 0, true),
+    (2, 1, true),
+    (3, 2, false),
+    (2, 0, false),
+    (1, 1, false),
+];
+
 #[test]
 fn signatures_are_tested_under_the_authors_listed_key(rt: HostRuntime) -> Result<(), Fail> {
     let alloc = rt.alloc();
-    let mut one = signer_of(alloc, 1)?;
-    let mut two = signer_of(alloc, 2)?;
-    let mut three = signer_of(alloc, 3)?;
-    let keys = listed(alloc, &[(1, &one), (2, &two)])?;
+    let mut signers = three_signers(alloc)?;
+    let keys = listed(alloc, &[1, 2], &signers)?;
+    for (author, place, want) in SIGNATURES {
+        if let Some(signer) = signers.get_mut(*place) {
+            assert_eq!(rt;
+                (author, place, is_signed_by(alloc, &keys, *author, signer)?),
+                (author, place, *want)
+            );
+        }
+    }
+    Ok(())
+}
 
-    let by_one = sign_op(alloc, &mut one, unsigned(alloc, 1, POST_A)?)?;
-    assert!(rt; is_author_signed(alloc, &keys, &by_one)?);
-    let by_two = sign_op(alloc, &mut two, unsigned(alloc, 2, POST_A)?)?;
-    assert!(rt; is_author_signed(alloc, &keys, &by_two)?);
-
-    let unlisted = sign_op(alloc, &mut three, unsigned(alloc, 3, POST_A)?)?;
-    assert!(rt; !is_author_signed(alloc, &keys, &unlisted)?);
-    let by_another = sign_op(alloc, &mut one, unsigned(alloc, 2, POST_A)?)?;
-    assert!(rt; !is_author_signed(alloc, &keys, &by_another)?);
-    let by_nobody = unsigned(alloc, 1, POST_A)?;
-    assert!(rt; !is_author_signed(alloc, &keys, &by_nobody)?);
-    let changed = doing_as(by_one, unsigned(alloc, 1, POST_B)?);
-    assert!(rt; !is_author_signed(alloc, &keys, &changed)?);
-    let unchanged = doing_as(by_two, unsigned(alloc, 2, POST_A)?);
-    assert!(rt; is_author_signed(alloc, &keys, &unchanged)?);
+#[test]
+fn a_signature_is_of_what_was_signed(rt: HostRuntime) -> Result<(), Fail> {
+    let alloc = rt.alloc();
+    let mut signer = signer_of(alloc, 1)?;
+    let mut keys = Vec::new(alloc);
+    keys.push((1, signer.public()))?;
+    let keys = Sequence::of(keys);
+    for (kind, want) in [(POST_A, true), (POST_B, false)] {
+        assert_eq!(rt; is_signed_doing(alloc, &keys, kind, &mut signer)?, want);
+    }
+    assert!(rt; !is_author_signed(alloc, &keys, &unsigned(alloc, 1, POST_A)?)?);
     Ok(())
 }
 
@@ -93,38 +139,25 @@ fn signatures_are_tested_under_the_authors_listed_key(rt: HostRuntime) -> Result
 fn a_signer_is_spent_after_its_leaves(rt: HostRuntime) -> Result<(), Fail> {
     let alloc = rt.alloc();
     let mut signer = signer_of(alloc, 1)?;
-    let keys = listed(alloc, &[(1, &signer)])?;
     for _ in 0..32 {
-        let op = sign_op(alloc, &mut signer, unsigned(alloc, 1, POST_A)?)?;
-        assert!(rt; is_author_signed(alloc, &keys, &op)?);
+        sign_op(alloc, &mut signer, unsigned(alloc, 1, POST_A)?)?;
     }
-    assert_eq!(rt; signer.left(), 0);
-    let Err(refusal) = sign_op(alloc, &mut signer, unsigned(alloc, 1, POST_A)?) else {
-        return Err("a leaf signed twice".into());
-    };
-    assert_eq!(rt; refusal, SignRefusal::Spent);
-    assert_eq!(rt; signer.left(), 0);
-    assert_eq!(rt; key_of(&keys, 1), Some(signer.public()));
+    let refusal = sign_op(alloc, &mut signer, unsigned(alloc, 1, POST_A)?).err();
+    assert_eq!(rt; (refusal, signer.left()), (Some(SignRefusal::Spent), 0));
     Ok(())
 }
 
 #[test]
 fn keys_are_found_by_user(rt: HostRuntime) -> Result<(), Fail> {
     let alloc = rt.alloc();
-    let one = signer_of(alloc, 1)?;
-    let two = signer_of(alloc, 2)?;
-    let keys = listed(alloc, &[(1, &one), (4, &two)])?;
-    let cases = [
-        (0, None),
-        (1, Some(one.public())),
-        (2, None),
-        (4, Some(two.public())),
-        (5, None),
-    ];
-    for (user, want) in cases {
-        assert_eq!(rt; key_of(&keys, user), want);
+    let signers = three_signers(alloc)?;
+    let keys = listed(alloc, &[1, 4], &signers)?;
+    for (user, place) in [(0, None), (1, Some(0)), (2, None), (4, Some(1)), (5, None)] {
+        let want = place
+            .and_then(|place: usize| signers.get(place))
+            .map(|signer| signer.public());
+        assert_eq!(rt; (user, key_of(&keys, user)), (user, want));
     }
-    assert_eq!(rt; key_of(&listed(alloc, &[])?, 1), None);
     Ok(())
 }
 

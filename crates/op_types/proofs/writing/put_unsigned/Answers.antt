@@ -11,5 +11,5 @@ pub returns : goal.returns
 unfolding unsigned_text
 returns c =
     let op = c.args.op.now in
-    rw (c.in_ok-put_kind.ensures, c.in_ok-put_view.ensures, c.in_ok-put_u64.ensures.appended, c.in_ok-put_u32-3.ensures.appended, c.in_ok-put_u32-2.ensures.appended, c.in_ok-put_u32.ensures.appended)
+    rw (c.in_ok-put_kind.ensures, c.in_ok-put_view.ensures.added, c.in_ok-put_u64.ensures.appended, c.in_ok-put_u32-3.ensures.appended, c.in_ok-put_u32-2.ensures.appended, c.in_ok-put_u32.ensures.appended)
     (joined c.args.out.now.items (to_be_bytes w32 op.wall) (to_be_bytes w32 op.author) (to_be_bytes w32 op.seq) (to_be_bytes w64 op.epoch) (view_text op.view) (kind_text op.kind))
