@@ -1,0 +1,7 @@
+use Rattle.std.proofs.Common.{◌≡◌, ◌++◌, take}
+use Rattle.std.specs.List.{flat_map}
+use Rattle.fr_bytes.specs.Bytes.{counted}
+use Rattle.msg_form.proofs.writing.put_texts.Given as goal
+
+abbrev pub invariant-loop-text : goal.invariant-loop-text
+invariant-loop-text l = l.out.items ≡ l.fn.out.items ++ flat_map counted (take l.text-index l.texts)
