@@ -1,8 +1,8 @@
 -- Which nodes of a pruned list a change enters, and what is left where the others are hidden. d is the digest of
 -- strings.
-use Rattle.std.specs.Prelude.{ℕ, Bool, List, [], ◌∷◌, ◌++◌, nat_lt, nat_eq, if◌then◌else◌}
+use Rattle.std.specs.Prelude.{◌≡◌, ℕ, Bool, true, List, [], ◌∷◌, ◌++◌, nat_lt, nat_eq, if◌then◌else◌}
+use Rattle.std.specs.List.{AllByRecursion}
 use Rattle.fr_digest.specs.Digest.{Digest}
-use Rattle.tree_model.specs.declared.entry.Entry.{Entry}
 use Rattle.tree_model.specs.AccessList.{is_above, node_text, ListChange, stays, adds, drops}
 use Rattle.pruned_list.specs.PrunedList.{PrunedList, absent, hidden, node, part_digest}
 
@@ -43,6 +43,10 @@ entered author (adds e) p = path author p ++ path e.user p
 entered author (drops user) p = path author p ++ removal user p
 
 -- ---- what is kept
+
+-- each of the users is kept
+abbrev pub Keeps : (ℕ → Bool) → List ℕ → Type 0
+Keeps keep users = AllByRecursion (λ (u : ℕ). keep u ≡ true) users
 
 -- The list with the nodes of these users kept, and each other one hidden with all below it.
 unfoldable pub kept : Digest → (ℕ → Bool) → PrunedList → PrunedList

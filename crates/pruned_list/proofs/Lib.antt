@@ -1,0 +1,13 @@
+pub mod Changes
+pub mod Entered
+pub mod Found
+pub mod Insertions
+pub mod Joins
+pub mod Keeping
+pub mod LookUps
+pub mod Options
+pub mod Prunings
+pub mod Removals
+pub mod Shown
+pub mod Splits
+pub mod Wholes
