@@ -1,13 +1,17 @@
-ghost use Rattle.std.specs.Prelude.{◌≡◌, ◌<◌, ◌≤◌, [], ◌∷◌, Some, None, IfOk, IsSome, length, slice_range};
+ghost use Rattle.std.specs.Prelude.{◌≡◌, ◌<◌, [], ◌∷◌, Some, None, IfOk, IsSome, length};
 ghost use Rattle.tree_model.specs.AccessList.{IsRising, dict, entry_of, greater, smaller, top_of, with_entry, with_next, without};
 ghost use Rattle.dict_treap.specs.Lists.{where_some};
+ghost use Rattle.dict_treap.specs.Treap.{IsTreap, owned, part};
+ghost use Rattle.pruned_list.specs.PrunedList.{PrunesDict, IsWhole, in_order};
 
+use crate::changes;
+use crate::node::{Node, Part, copy, over};
 use fr_bytes::NoMemory;
 use fr_digest::{Dig, Digester};
 use std::alloc::Global;
-use std::marker::{Model, PhantomData};
+use std::marker::Model;
 use std::sync::Arc;
-use tree_model::{Entry, add_entry, dict_digest, drop_user, find_entry, set_next, top_in};
+use tree_model::Entry;
 
 /// An access list, which contracts see as the list of its entries: it has one at least, and the users
 /// rise.
@@ -16,24 +20,22 @@ use tree_model::{Entry, add_entry, dict_digest, drop_user, find_entry, set_next,
 /// the allocator that the first one was made with.
 #[derive(Drop)]
 pub struct Dict<D: Digester> {
-    list: Arc<Vec<Entry>>,
-    from: usize,
-    to: usize,
-    digester: PhantomData<D>,
+    root: Arc<Node<D>>,
+    alloc: Global,
 }
 
 impl<D: Digester> Model for Dict<D> {
-    ghost use Rattle.std.specs.Prelude.{◌<◌, ◌≤◌, List, length, slice_range};
+    ghost use Rattle.dict_treap.specs.Treap.{IsTreap};
+    ghost use Rattle.pruned_list.specs.PrunedList.{in_order};
     ghost use Rattle.std.specs.Arc.{arc_value};
-    ghost use Rattle.tree_model.specs.AccessList.{IsRising};
+    ghost use Rattle.std.specs.Prelude.{◌<◌, List, length};
     ghost use Rattle.tree_model.specs.declared.entry.Entry.{Entry};
 
     ghost Value = { List Entry };
 
-    ghost view = { λ d. slice_range (arc_value d.list).items d.from d.to };
+    ghost view = { λ d. in_order (arc_value d.root) };
 
-    ghost invariant = { λ d. (d.from < d.to) × (d.to ≤ length (arc_value d.list).items)
-        × IsRising (slice_range (arc_value d.list).items d.from d.to) };
+    ghost invariant = { λ d. (0 < length (in_order (arc_value d.root))) × IsTreap D.digest_of (arc_value d.root) };
 }
 
 impl<D: Digester> Dict<D> {
@@ -41,9 +43,7 @@ impl<D: Digester> Dict<D> {
     pub fn one(alloc: Global, entry: Entry) -> Result<Dict<D>, NoMemory>
         ensures { IfOk result (λ d. d ≡ entry ∷ []) }
     {
-        let mut list = Vec::new(alloc);
-        list.push(entry)?;
-        Dict::of(list)
+        Dict::of(alloc, over(alloc, entry, None, None)?)
     }
 
     /// The same list, of which no entry is copied. `NoMemory` stands for a refused count of owners.
@@ -51,10 +51,8 @@ impl<D: Digester> Dict<D> {
         ensures { IfOk result (λ d. d ≡ self.now) }
     {
         Ok(Dict {
-            list: Arc::try_clone(&self.list)?,
-            from: self.from,
-            to: self.to,
-            digester: PhantomData,
+            root: Arc::try_clone(&self.root)?,
+            alloc: self.alloc,
         })
     }
 
@@ -62,14 +60,14 @@ impl<D: Digester> Dict<D> {
     pub fn get(&self, user: u32) -> Option<Entry>
         ensures { result ≡ entry_of self.now user }
     {
-        find_entry(self.entries(), user)
+        changes::find(Some(self.root()), user)
     }
 
     /// The digest of the list. Takes no memory.
     pub fn digest(&self) -> Dig
         ensures { result ≡ dict D.digest_of self.now }
     {
-        dict_digest::<D>(self.entries())
+        self.root().digest()
     }
 
     /// The list with the entry of a user who has none yet.
@@ -77,7 +75,8 @@ impl<D: Digester> Dict<D> {
         requires absent { entry_of self.now entry.user ≡ None }
         ensures { IfOk result (λ d. d ≡ with_entry entry self.now) }
     {
-        Dict::of(add_entry(self.allocator(), self.entries(), entry)?)
+        let root = changes::insert(self.alloc, Some(self.root()), entry)?;
+        Dict::of(self.alloc, root)
     }
 
     /// The list without the entry of a user who isn't the only one.
@@ -86,7 +85,8 @@ impl<D: Digester> Dict<D> {
         requires others { 1 < length self.now }
         ensures { IfOk result (λ d. d ≡ without user self.now) }
     {
-        Dict::of(drop_user(self.allocator(), self.entries(), user)?)
+        let root = changes::remove(self.alloc, Some(self.root()), user)?;
+        Dict::of(self.alloc, root)
     }
 
     /// The list in which a user's next number is `next`.
@@ -94,68 +94,57 @@ impl<D: Digester> Dict<D> {
         requires present { IsSome (entry_of self.now user) }
         ensures { IfOk result (λ d. d ≡ with_next user next self.now) }
     {
-        Dict::of(set_next(self.allocator(), self.entries(), user, next)?)
+        let root = changes::set_next(self.alloc, Some(self.root()), user, next)?;
+        Dict::of(self.alloc, root)
     }
 
     /// The entry of greatest priority, and the lists of the smaller and of the greater users: `None`
-    /// exactly where there are none. No entry is copied, so `NoMemory` stands for a refused count of
-    /// owners.
+    /// exactly where there are none. Nothing is hashed.
     pub fn top(&self) -> Result<(Entry, Option<Dict<D>>, Option<Dict<D>>), NoMemory>
         ensures entry { IfOk result (λ parts. top_of self.now ≡ Some parts.0) }
         ensures smaller { IfOk result (λ parts. parts.1 ≡ where_some (smaller parts.0.user self.now)) }
         ensures greater { IfOk result (λ parts. parts.2 ≡ where_some (greater parts.0.user self.now)) }
     {
-        let entries = self.entries();
-        let (place, entry) = top_in(entries);
-        let smaller = self.part(0, place)?;
-        let greater = self.part(place + 1, entries.len())?;
-        Ok((entry, smaller, greater))
+        let root = self.root();
+        let smaller = self.part(root.left())?;
+        let greater = self.part(root.right())?;
+        Ok((root.entry(), smaller, greater))
     }
 
-    /// The entries, in order.
-    pub(crate) fn entries(&self) -> &[Entry]
-        ensures value { result.now ≡ self.now }
-        ensures some { 0 < length self.now }
+    /// The root of the treap of the entries.
+    pub fn root(&self) -> &Node<D>
+        ensures whole { IsWhole result.now }
+        ensures treap { PrunesDict D.digest_of result.now self.now }
+        ensures entries { in_order result.now ≡ self.now }
         ensures rising { IsRising self.now }
     {
-        &self.list[self.from..self.to]
+        &self.root
     }
 
-    /// The allocator of the list.
-    fn allocator(&self) -> Global {
-        *self.list.allocator()
-    }
-
-    /// The list of the entries of `list`.
-    fn of(list: Vec<Entry>) -> Result<Dict<D>, NoMemory>
-        requires some { 0 < length list.items }
-        requires rising { IsRising list.items }
-        ensures { IfOk result (λ d. d ≡ list.items) }
+    /// The list of a treap.
+    fn of(alloc: Global, root: Part<D>) -> Result<Dict<D>, NoMemory>
+        requires some { 0 < length (in_order (owned root)) }
+        requires treap { IsTreap D.digest_of (owned root) }
+        ensures { IfOk result (λ d. d ≡ in_order (owned root)) }
     {
-        let to = list.len();
-        let alloc = *list.allocator();
+        let Some(root) = root else { unreachable!() };
         Ok(Dict {
-            list: Arc::new(alloc, list)?,
-            from: 0,
-            to,
-            digester: PhantomData,
+            root: Arc::new(alloc, Box::into_inner(root))?,
+            alloc,
         })
     }
 
-    /// The list of the entries from the place `start` up to `end`, where there are some.
-    fn part(&self, start: usize, end: usize) -> Result<Option<Dict<D>>, NoMemory>
-        requires ordered { start ≤ end }
-        requires within { end ≤ length self.now }
-        ensures { IfOk result (λ d. d ≡ where_some (slice_range self.now start end)) }
+    /// The list of a copy of a part, where it has a node.
+    fn part(&self, at: Option<&Node<D>>) -> Result<Option<Dict<D>>, NoMemory>
+        requires { IsTreap D.digest_of (part at) }
+        ensures { IfOk result (λ d. d ≡ where_some (in_order (part at.entry))) }
     {
-        if start == end {
+        let Some(node) = at else {
             return Ok(None);
-        }
-        Ok(Some(Dict {
-            list: Arc::try_clone(&self.list)?,
-            from: self.from + start,
-            to: self.from + end,
-            digester: PhantomData,
-        }))
+        };
+        // For the proof alone: a node has an entry.
+        let _entry = node.entry();
+        let root = copy(self.alloc, at)?;
+        Ok(Some(Dict::of(self.alloc, root)?))
     }
 }

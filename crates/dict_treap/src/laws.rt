@@ -10,7 +10,7 @@ pub fn lists<D: Digester>(dict: &Dict<D>)
     ensures some { 0 < length dict.now }
     ensures rising { IsRising dict.now }
 {
-    let _entries = dict.entries();
+    let _root = dict.root();
 }
 
 /// Where two users have entries, neither is the only one.

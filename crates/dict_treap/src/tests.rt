@@ -1,4 +1,8 @@
-use crate::{Dict, laws};
+ghost use Rattle.dict_treap.specs.Treap.{part};
+ghost use Rattle.pruned_list.specs.PrunedList.{in_order, levels};
+ghost use Rattle.std.specs.Prelude.{◌≡◌, ◌++◌, IfOk, OnOk};
+
+use crate::{Dict, Node, laws};
 use fr_bytes::NoMemory;
 use fr_digest::{Digester, Sha, Short};
 use std::alloc::Global;
@@ -22,14 +26,44 @@ fn writer(user: u32) -> Entry {
     }
 }
 
+// Appends the entries of a part, smaller users first.
+#[tactic(auto, using(crate::proofs::Treaps::orders), unfolding(pruned_list::specs::PrunedList::in_order))]
+fn put_entries<D: Digester>(out: &mut Vec<Entry>, at: Option<&Node<D>>) -> Result<(), NoMemory>
+    ensures { OnOk result (out.new.items ≡ out.old.items ++ in_order (part at.entry)) }
+{
+    let Some(node) = at else {
+        return Ok(());
+    };
+    put_entries(out, node.left())?;
+    out.push(node.entry())?;
+    put_entries(out, node.right())
+}
+
+// The entries of a list, smaller users first.
+fn entries<D: Digester>(alloc: Global, dict: &Dict<D>) -> Result<Vec<Entry>, NoMemory>
+    ensures { IfOk result (λ list. list.items ≡ dict.now) }
+{
+    let mut list = Vec::new(alloc);
+    put_entries(&mut list, Some(dict.root()))?;
+    Ok(list)
+}
+
 fn with<D: Digester>(rt: &impl Abort, dict: &Dict<D>, entry: Entry) -> Result<Dict<D>, NoMemory> {
     assert!(rt; dict.get(entry.user).is_none());
     dict.insert(entry)
 }
 
-fn less<D: Digester>(rt: &impl Abort, dict: &Dict<D>, user: u32) -> Result<Dict<D>, NoMemory> {
+// Without a user; another one stays.
+fn less<D: Digester>(
+    rt: &impl Abort,
+    dict: &Dict<D>,
+    user: u32,
+    stays: u32,
+) -> Result<Dict<D>, NoMemory> {
     assert!(rt; dict.get(user).is_some());
-    assert!(rt; dict.entries().len() > 1);
+    assert!(rt; dict.get(stays).is_some());
+    assert!(rt; user != stays);
+    laws::others();
     dict.remove(user)
 }
 
@@ -61,7 +95,7 @@ fn a_next_number_gives_a_new_version(rt: HostRuntime) -> Result<(), Fail> {
         ..writer(3)
     };
     assert_eq!(rt;
-        next.entries(),
+        entries(rt.alloc(), &next)?.as_slice(),
         [owner(), writer(2), changed, writer(4)].as_slice()
     );
     assert_eq!(rt; dict.get(3), Some(writer(3)));
@@ -72,7 +106,7 @@ fn a_next_number_gives_a_new_version(rt: HostRuntime) -> Result<(), Fail> {
 fn a_shared_version_is_the_same_list(rt: HostRuntime) -> Result<(), Fail> {
     let dict = four::<Short>(&rt, rt.alloc())?;
     let shared = dict.share()?;
-    assert_eq!(rt; shared.entries(), dict.entries());
+    assert_eq!(rt; entries(rt.alloc(), &shared)?, entries(rt.alloc(), &dict)?);
     assert_eq!(rt; shared.digest(), dict.digest());
     Ok(())
 }
@@ -95,9 +129,12 @@ fn the_top_parts_a_list(rt: HostRuntime) -> Result<(), Fail> {
     let dict = four::<Sha>(&rt, rt.alloc())?;
     let (top, _, _) = dict.top()?;
     assert_eq!(rt; top, writer(2));
-    assert_eq!(rt; smaller(&dict)?.entries(), [owner()].as_slice());
     assert_eq!(rt;
-        greater(&dict)?.entries(),
+        entries(rt.alloc(), &smaller(&dict)?)?.as_slice(),
+        [owner()].as_slice()
+    );
+    assert_eq!(rt;
+        entries(rt.alloc(), &greater(&dict)?)?.as_slice(),
         [writer(3), writer(4)].as_slice()
     );
     Ok(())
@@ -116,7 +153,9 @@ fn a_single_entry_has_no_parts(rt: HostRuntime) -> Result<(), Fail> {
 fn a_part_is_a_list_of_its_own(rt: HostRuntime) -> Result<(), Fail> {
     let part = greater(&four::<Sha>(&rt, rt.alloc())?)?;
     assert_eq!(rt; (part.get(2), part.get(4)), (None, Some(writer(4))));
-    assert_eq!(rt; part.digest(), dict_digest::<Sha>(part.entries()));
+    laws::lists(&part);
+    let listed = entries(rt.alloc(), &part)?;
+    assert_eq!(rt; part.digest(), dict_digest::<Sha>(&listed));
     Ok(())
 }
 
@@ -125,10 +164,13 @@ fn a_part_is_changed_as_a_list(rt: HostRuntime) -> Result<(), Fail> {
     let part = greater(&four::<Sha>(&rt, rt.alloc())?)?;
     let more = with(&rt, &part, writer(2))?;
     assert_eq!(rt;
-        more.entries(),
+        entries(rt.alloc(), &more)?.as_slice(),
         [writer(2), writer(3), writer(4)].as_slice()
     );
-    assert_eq!(rt; less(&rt, &part, 3)?.entries(), [writer(4)].as_slice());
+    assert_eq!(rt;
+        entries(rt.alloc(), &less(&rt, &part, 3, 4)?)?.as_slice(),
+        [writer(4)].as_slice()
+    );
     Ok(())
 }
 
@@ -243,7 +285,7 @@ fn changed<D: Digester>(
         0 => first_users(rt, alloc, size),
         1 => nine(rt, alloc, size),
         2 => with(rt, &nine(rt, alloc, size)?, writer(100)),
-        _ => less(rt, &nine(rt, alloc, size)?, 2),
+        _ => less(rt, &nine(rt, alloc, size)?, 2, 1),
     }
 }
 
@@ -292,7 +334,7 @@ const WITHOUT_3: &str = "cb3017ee93ceb453e2be835d19ced9a0dd25b1bb9d3100a7faa4136
 #[test]
 fn a_removal_leaves_the_version_before_it(rt: HostRuntime) -> Result<(), Fail> {
     let before = four::<Sha>(&rt, rt.alloc())?;
-    let after = less(&rt, &before, 3)?;
+    let after = less(&rt, &before, 3, 1)?;
     assert_eq!(rt; text_of(rt.alloc(), &after)?.as_str(), WITHOUT_3);
     assert_eq!(rt; text_of(rt.alloc(), &before)?.as_str(), FOUR);
     assert_eq!(rt; (before.get(3), after.get(3)), (Some(writer(3)), None));
@@ -303,7 +345,47 @@ fn a_removal_leaves_the_version_before_it(rt: HostRuntime) -> Result<(), Fail> {
 fn the_order_of_insertions_is_free(rt: HostRuntime) -> Result<(), Fail> {
     let made = with(&rt, &Dict::<Sha>::one(rt.alloc(), owner())?, writer(4))?;
     let made = with(&rt, &made, writer(2))?;
-    assert_eq!(rt; made.entries(), [owner(), writer(2), writer(4)].as_slice());
+    assert_eq!(rt;
+        entries(rt.alloc(), &made)?.as_slice(),
+        [owner(), writer(2), writer(4)].as_slice()
+    );
+    Ok(())
+}
+
+// The list of the first users, who came in the order of their numbers, or against it.
+fn rising_users<D: Digester>(
+    rt: &impl Abort,
+    alloc: Global,
+    size: u32,
+) -> Result<Dict<D>, NoMemory> {
+    let mut dict = Dict::one(alloc, numbered_user(1))?;
+    for user in 2..=size {
+        dict = with(rt, &dict, numbered_user(user))?;
+    }
+    Ok(dict)
+}
+
+fn falling_users<D: Digester>(
+    rt: &impl Abort,
+    alloc: Global,
+    size: u32,
+) -> Result<Dict<D>, NoMemory> {
+    let mut dict = Dict::one(alloc, numbered_user(size))?;
+    for user in (1..size).rev() {
+        dict = with(rt, &dict, numbered_user(user))?;
+    }
+    Ok(dict)
+}
+
+// The digest of `DIGESTS` for 32 users.
+const OF_32: &str = "720543318df4de6ac2d75b4d90817c434c015832fc027945c794694c678616fc";
+
+#[test]
+fn rising_and_falling_users_give_one_digest(rt: HostRuntime) -> Result<(), Fail> {
+    let rising = rising_users::<Sha>(&rt, rt.alloc(), 32)?;
+    let falling = falling_users::<Sha>(&rt, rt.alloc(), 32)?;
+    assert_eq!(rt; text_of(rt.alloc(), &rising)?.as_str(), OF_32);
+    assert_eq!(rt; falling.digest(), rising.digest());
     Ok(())
 }
 

@@ -40,7 +40,8 @@ on_top d e parts E top h =
     let self : e.user ≤ e.user = omega arith in
     (top, rw (smaller-with_entry_same e.user e E self) h.0, rw (greater-with_entry_same e.user e E self) h.1)
 
-alone : (d : Digest) (e : Entry) → PrunesList d (node e absent absent) (e ∷ [])
+-- the list of one entry
+pub alone : (d : Digest) (e : Entry) → PrunesList d (node e absent absent) (e ∷ [])
 unfolding PrunesList top_of greatest
 alone d e = let self : ltb e.user e.user ≡ false = le-ltb e.user e.user (omega arith) in rw self (refl, refl, refl)
 

@@ -1,16 +1,11 @@
-use Rattle.std.proofs.Common.{◌<◌, arith}
-use Rattle.std.specs.Arc.{arc_value}
-use Rattle.dict_treap.proofs.Ranges.{part-in, part-range}
+use Rattle.std.proofs.Common.{refl}
+use Rattle.dict_treap.specs.Treap.{part}
+use Rattle.dict_treap.proofs.Treaps.{none-absent, some-node}
 use Rattle.dict_treap.proofs.dict.Dict.part.Goals as goal
 
-pub invariant_of-result : goal.invariant_of-result
-invariant_of-result g c =
-    let ordered : c.args.start < c.args.end = omega arith in
-    let d = c.self.inside in
-    rw c.in_ok-try_clone.ensures (part-in (arc_value d.list).items d.from d.to c.args.start c.args.end c.args.self.now c.self.view_is c.self.invariant.2 c.self.invariant.1 ordered c.requires.within)
+pub returns-in_default : goal.returns-in_default
+returns-in_default g c = none-absent (part c.args.at) (rw c.in_default.is refl)
 
-pub returns : goal.returns
-returns g c =
-    let ordered : c.args.start < c.args.end = omega arith in
-    let d = c.self.inside in
-    rw c.in_ok-try_clone.ensures (part-range (arc_value d.list).items d.from d.to c.args.start c.args.end c.args.self.now c.self.view_is c.self.invariant.1 ordered c.requires.within)
+pub of-requires-clause-some : goal.of-requires-clause-some
+of-requires-clause-some g c =
+    rw (c.in_ok-root.ensures, c.in-Some.is) (some-node c.entry-entry.result c.in-Some.node.now c.entry-entry.ensures)

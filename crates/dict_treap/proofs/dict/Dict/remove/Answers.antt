@@ -1,8 +1,16 @@
-use Rattle.dict_treap.proofs.Versions.{rising-without, without-some}
+use Rattle.dict_treap.specs.Treap.{owned}
+use Rattle.dict_treap.proofs.Treaps.{remove-makes}
 use Rattle.dict_treap.proofs.dict.Dict.remove.Goals as goal
 
 pub of-requires-clause-some : goal.of-requires-clause-some
-of-requires-clause-some g c = rw (c.in_ok-drop_user.ensures, c.entries.ensures.value) (without-some c.args.user c.args.self.now c.entries.ensures.rising c.requires.others)
+of-requires-clause-some g c =
+    (remove-makes g.D.Digester.digest_of c.args.user c.root.result.now (owned c.in_ok-root.root) c.args.self.now c.root.ensures.rising c.root.ensures.whole c.root.ensures.treap c.requires.others c.in_ok-root.ensures).some
 
-pub of-requires-clause-rising : goal.of-requires-clause-rising
-of-requires-clause-rising g c = rw (c.in_ok-drop_user.ensures, c.entries.ensures.value) (rising-without c.args.user c.args.self.now c.entries.ensures.rising)
+pub of-requires-clause-treap : goal.of-requires-clause-treap
+of-requires-clause-treap g c =
+    (remove-makes g.D.Digester.digest_of c.args.user c.root.result.now (owned c.in_ok-root.root) c.args.self.now c.root.ensures.rising c.root.ensures.whole c.root.ensures.treap c.requires.others c.in_ok-root.ensures).treap
+
+pub returns : goal.returns
+returns g c =
+    let made = remove-makes g.D.Digester.digest_of c.args.user c.root.result.now (owned c.in_ok-root.root) c.args.self.now c.root.ensures.rising c.root.ensures.whole c.root.ensures.treap c.requires.others c.in_ok-root.ensures in
+    rw made.entries at c.of.ensures

@@ -1,23 +1,24 @@
-use Rattle.std.proofs.Common.{◌≡◌, ◌+◌, length, Some}
-use Rattle.std.specs.Prelude.{slice_get, slice_range}
-use Rattle.tree_model.specs.AccessList.{greater, smaller}
-use Rattle.dict_treap.proofs.Ranges.{range-greater, range-smaller}
+use Rattle.dict_treap.proofs.Treaps.{any-parted, parted}
 use Rattle.dict_treap.proofs.dict.Dict.top.Goals as goal
+
+pub part-requires : goal.part-requires
+part-requires g c =
+    rw c.left.ensures.value (any-parted g.D.Digester.digest_of c.root-root.result.now c.args.self.now c.root-root.ensures.rising c.root-root.ensures.whole c.root-root.ensures.treap).0
+
+pub part-requires-2 : goal.part-requires-2
+part-requires-2 g c =
+    rw c.right.ensures.value (any-parted g.D.Digester.digest_of c.root-root.result.now c.args.self.now c.root-root.ensures.rising c.root-root.ensures.whole c.root-root.ensures.treap).1
+
+pub returns-clause-entry : goal.returns-clause-entry
+returns-clause-entry g c =
+    (parted g.D.Digester.digest_of c.root-root.result.now c.args.self.now c.entry.result c.root-root.ensures.rising c.root-root.ensures.whole c.root-root.ensures.treap c.entry.ensures).top
 
 pub returns-clause-smaller : goal.returns-clause-smaller
 returns-clause-smaller g c =
-    let es = c.args.self.now in
-    let place = c.top_in-place.result.0 in
-    let top = c.top_in-place.result.1 in
-    let at : slice_get es place ≡ Some top = rw (← c.entries-entries.ensures.value) c.top_in-place.ensures.place in
-    let below : slice_range es 0 place ≡ smaller top.user es = range-smaller es place top c.entries-entries.ensures.rising at in
-    rw below at c.in_ok-smaller.ensures
+    let parts = parted g.D.Digester.digest_of c.root-root.result.now c.args.self.now c.entry.result c.root-root.ensures.rising c.root-root.ensures.whole c.root-root.ensures.treap c.entry.ensures in
+    rw (c.left.ensures.value, parts.smaller_users) at c.in_ok-smaller.ensures
 
 pub returns-clause-greater : goal.returns-clause-greater
 returns-clause-greater g c =
-    let es = c.args.self.now in
-    let place = c.top_in-place.result.0 in
-    let top = c.top_in-place.result.1 in
-    let at : slice_get es place ≡ Some top = rw (← c.entries-entries.ensures.value) c.top_in-place.ensures.place in
-    let above : slice_range es (place + 1) (length es) ≡ greater top.user es = range-greater es place top c.entries-entries.ensures.rising at in
-    rw (c.entries-entries.ensures.value, above) at c.in_ok-greater.ensures
+    let parts = parted g.D.Digester.digest_of c.root-root.result.now c.args.self.now c.entry.result c.root-root.ensures.rising c.root-root.ensures.whole c.root-root.ensures.treap c.entry.ensures in
+    rw (c.right.ensures.value, parts.greater_users) at c.in_ok-greater.ensures
