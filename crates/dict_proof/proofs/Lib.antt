@@ -1,4 +1,6 @@
 pub mod Staying
+pub mod Levels
+pub mod Prunings
 pub mod Spellings
 pub mod Steps
 pub mod Tags

@@ -1,6 +1,6 @@
 -- That reading and spelling of pruned lists agree, and what follows of it.
-use Rattle.std.proofs.Common.{◌≡◌, ℕ, zero, suc, ◌+◌, ◌<◌, ◌≤◌, Bool, true, false, [], ◌∷◌, ◌++◌, length, None, Some, Result, Ok, Err, refl, ap, sym, subst, ◌∙◌, inl, inr, arith, lit<}
-use Rattle.std.specs.Prelude.{IfOk, IsErrOf, max}
+use Rattle.std.proofs.Common.{◌≡◌, ℕ, zero, suc, ◌<◌, ◌≤◌, Bool, true, false, [], ◌∷◌, ◌++◌, length, Result, Ok, Err, refl, ap, sym, subst, ◌∙◌, inl, inr, arith, lit<}
+use Rattle.std.specs.Prelude.{IfOk, IsErrOf}
 use Rattle.std.specs.Int.{w32, to_be_bytes}
 use Rattle.fr_bytes.specs.declared.refusals.ReadRefusal.{ReadRefusal}
 use Rattle.fr_bytes.specs.declared.refusals.ReadRefusal.TheVariants as refusals
@@ -16,7 +16,7 @@ use Rattle.tree_model.specs.declared.entry.Entry.{Entry}
 use Rattle.pruned_list.specs.PrunedList.{PrunedList, absent, hidden, node, levels, byte_count, HasDigests}
 use Rattle.dict_proof.specs.declared.pruned_dict.PrunedDict.{PrunedDict}
 use Rattle.dict_proof.specs.declared.limits.TheConstants.{HIDDEN_TAG, ENTRY_TAG, ROLE_MIN, ROLE_MAX, FLAGS_MAX, LEVELS_MAX}
-use Rattle.dict_proof.specs.Spelling.{HasRanges, IsDig, IsEntry, IsSpelled, Spells, behind_at, cases_of, dict_at, dict_format, entry_at, entry_text, flags_by, flags_of, has_left, has_right, hidden_at, is_there, list_at, list_text, made_node, node_at, none_at, part_at}
+use Rattle.dict_proof.specs.Spelling.{HasRanges, IsDig, IsEntry, IsSpelled, Spells, behind_at, cases_of, dict_at, dict_format, entry_at, entry_text, flags_by, flags_of, has_left, has_right, hidden_at, is_there, list_at, list_text, made_node, node_at}
 use Rattle.dict_proof.specs.View.{list_view}
 
 -- ---- entries

@@ -1,10 +1,10 @@
 -- Look-ups and changes of a pruned list, step by step.
-use Rattle.std.proofs.Common.{◌≡◌, ◌≢◌, ℕ, suc, ◌<◌, ◌≤◌, true, false, Option, None, Some, refl, sym, ap, arith}
+use Rattle.std.proofs.Common.{◌≡◌, ℕ, ◌<◌, ◌≤◌, true, false, None, Some, refl, arith}
 use Rattle.std.specs.Option.{option_map}
 use Rattle.std.proofs.lemmas.Bool.{lt-ltb, le-ltb, eq-eqb, ne_eqb}
 use Rattle.tree_model.specs.declared.entry.Entry.{Entry}
 use Rattle.tree_model.specs.AccessList.{is_above}
-use Rattle.pruned_list.specs.PrunedList.{PrunedList, absent, hidden, node, Sought, found, seek, set_next, split, insert, over, join, under, remove, smaller_over, greater_over, levels}
+use Rattle.pruned_list.specs.PrunedList.{PrunedList, absent, hidden, node, found, seek, set_next, split, insert, over, join, under, remove, smaller_over, greater_over, levels}
 use Rattle.dict_proof.proofs.Views.{list_views}
 
 below-ne : (u v : ℕ) → u < v → u ≡ v → ⊥

@@ -1,6 +1,5 @@
 -- What each value of the program stands for, by its kind.
 use Rattle.std.proofs.Common.{◌≡◌, ◌∙◌, None, Some, sym, rules}
-use Rattle.std.specs.Box.{box_value}
 use Rattle.dict_proof.specs.declared.pruned_dict.PrunedDict as dict
 use Rattle.dict_proof.specs.declared.pruned_dict.PrunedDict.{PrunedDict, fold_out-PrunedDict}
 use Rattle.dict_proof.specs.declared.pruned_dict.PrunedDict.TheOpen.{PrunedDict-F}

@@ -1,5 +1,5 @@
 -- The spelling of a pruned list, piece by piece.
-use Rattle.std.proofs.Common.{◌≡◌, ℕ, [], ◌∷◌, ◌++◌, refl, ap, append_assoc}
+use Rattle.std.proofs.Common.{◌≡◌, [], ◌∷◌, ◌++◌, refl, append_assoc}
 use Rattle.fr_bytes.specs.Bytes.{Text}
 use Rattle.tree_model.specs.declared.entry.Entry.{Entry}
 use Rattle.pruned_list.specs.PrunedList.{PrunedList, absent, hidden, node}

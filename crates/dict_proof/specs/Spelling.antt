@@ -28,6 +28,10 @@ HasRanges absent = Unit {0}
 HasRanges (hidden x) = IsDig x
 HasRanges (node e l r) = IsEntry e × HasRanges l × HasRanges r
 
+-- no more than this many levels, and all parts in range
+abbrev pub FitsIn : ℕ → PrunedList → Type 0
+FitsIn most p = (levels p ≤ most) × HasRanges p
+
 -- The list has a spelling: it has an entry, no more than 40 levels, of which a hidden part is one, and its
 -- parts are in range.
 pub record IsSpelled (p : PrunedList) : Type 0 where

@@ -1,13 +1,16 @@
 ghost use Rattle.dict_proof.specs.Ends.{Leaves};
 ghost use Rattle.dict_proof.specs.Keeping.{KeepsAuthor};
 ghost use Rattle.dict_proof.specs.View.{change_view, list_view, part_view};
-ghost use Rattle.pruned_list.specs.PrunedList.{carry, changed, insert, over, remove, set_next, split};
+ghost use Rattle.pruned_list.specs.PrunedList.{PrunesDict, carry, changed, insert, over, remove, set_next, split};
 ghost use Rattle.std.specs.Option.{option_map};
-ghost use Rattle.std.specs.Prelude.{◌≡◌, IfOk, IsErrOf, None, Some};
+ghost use Rattle.std.specs.Prelude.{◌≡◌, IfOk, IsErrOf, List, None, Some};
+ghost use Rattle.fr_digest.specs.Digest.{Digest};
+ghost use Rattle.tree_model.specs.AccessList.{FitsChange, IsRising, changed_set};
+ghost use Rattle.tree_model.specs.declared.entry.Entry.{Entry};
 
 use crate::change::{Change, DictEnd};
 use crate::joining::{join, split};
-use crate::parts::{Part, boxed, placed, taken};
+use crate::parts::{Part, boxed, boxed_over, over, taken};
 use crate::pruned_dict::PrunedDict;
 use fr_bytes::NoMemory;
 use std::alloc::Global;
@@ -26,14 +29,14 @@ fn set_next(part: Part, user: u32, next: u32) -> Option<Part>
         PrunedDict::Node { entry, left, right } => {
             if user == entry.user {
                 let entry = Entry { next, ..entry };
-                return Some(placed(top, PrunedDict::Node { entry, left, right }));
+                return Some(over(top, entry, left, right));
             }
             if user < entry.user {
                 let left = set_next(left, user, next)?;
-                return Some(placed(top, PrunedDict::Node { entry, left, right }));
+                return Some(over(top, entry, left, right));
             }
             let right = set_next(right, user, next)?;
-            Some(placed(top, PrunedDict::Node { entry, left, right }))
+            Some(over(top, entry, left, right))
         }
     }
 }
@@ -44,7 +47,7 @@ fn put_over(alloc: Global, part: Part, entry: Entry) -> Result<Option<Part>, NoM
 {
     match split(part, entry.user) {
         None => Ok(None),
-        Some((left, right)) => Ok(Some(boxed(alloc, PrunedDict::Node { entry, left, right })?)),
+        Some((left, right)) => Ok(Some(boxed_over(alloc, entry, left, right)?)),
     }
 }
 
@@ -55,14 +58,7 @@ fn insert(alloc: Global, part: Part, entry: Entry) -> Result<Option<Part>, NoMem
 {
     let mut top = match part {
         None => {
-            let part = boxed(
-                alloc,
-                PrunedDict::Node {
-                    entry,
-                    left: None,
-                    right: None,
-                },
-            )?;
+            let part = boxed_over(alloc, entry, None, None)?;
             return Ok(Some(part));
         }
         Some(top) => top,
@@ -75,40 +71,19 @@ fn insert(alloc: Global, part: Part, entry: Entry) -> Result<Option<Part>, NoMem
             right,
         } => {
             if !above(upper.user, entry.user) {
-                let whole = placed(
-                    top,
-                    PrunedDict::Node {
-                        entry: upper,
-                        left,
-                        right,
-                    },
-                );
-                return put_over(alloc, whole, entry);
+                let made = put_over(alloc, over(top, upper, left, right), entry)?;
+                return Ok(made);
             }
             if entry.user < upper.user {
                 let Some(left) = insert(alloc, left, entry)? else {
                     return Ok(None);
                 };
-                return Ok(Some(placed(
-                    top,
-                    PrunedDict::Node {
-                        entry: upper,
-                        left,
-                        right,
-                    },
-                )));
+                return Ok(Some(over(top, upper, left, right)));
             }
             let Some(right) = insert(alloc, right, entry)? else {
                 return Ok(None);
             };
-            Ok(Some(placed(
-                top,
-                PrunedDict::Node {
-                    entry: upper,
-                    left,
-                    right,
-                },
-            )))
+            Ok(Some(over(top, upper, left, right)))
         }
     }
 }
@@ -130,10 +105,10 @@ fn remove(part: Part, user: u32) -> Option<Part>
             }
             if user < entry.user {
                 let left = remove(left, user)?;
-                return Some(placed(top, PrunedDict::Node { entry, left, right }));
+                return Some(over(top, entry, left, right));
             }
             let right = remove(right, user)?;
-            Some(placed(top, PrunedDict::Node { entry, left, right }))
+            Some(over(top, entry, left, right))
         }
     }
 }
@@ -165,6 +140,26 @@ fn changed(
     }
 }
 
+/// What an operation leaves of a pruned list.
+fn changed_list(
+    alloc: Global,
+    p: PrunedDict,
+    author: u32,
+    next: u32,
+    change: Change,
+) -> Result<PrunedDict, DictEnd>
+    requires keeps { KeepsAuthor (list_view p) author (change_view change) }
+    ensures value { IfOk result (λ q. changed (list_view p) author next (change_view change) ≡ Some (list_view q)) }
+    ensures exact { Leaves result (changed (list_view p) author next (change_view change)) }
+{
+    let part = boxed(alloc, p)?;
+    match changed(alloc, part, author, next, change)? {
+        None => Err(DictEnd::Hid),
+        Some(None) => unreachable!(),
+        Some(Some(top)) => Ok(Box::into_inner(top)),
+    }
+}
+
 /// What an operation leaves of any pruned list: its author's next number is set to `next`, and then the change is
 /// made. `Hid` comes exactly where the search for the author, the way to an inserted entry's place, the
 /// splitting of what stood there, the search for a removed user or the joining of its parts must enter a
@@ -181,12 +176,10 @@ pub fn apply(
     requires keeps { KeepsAuthor (list_view p) author (change_view change) }
     ensures value { IfOk result (λ q. changed (list_view p) author next (change_view change) ≡ Some (list_view q)) }
     ensures hid { IsErrOf result DictEnd.Hid → changed (list_view p) author next (change_view change) ≡ None }
+    ensures pruning { (d : Digest) (E : List Entry) → IsRising E → FitsChange E author (change_view change)
+        → PrunesDict d (list_view p) E
+        → IfOk result (λ q. PrunesDict d (list_view q) (changed_set E author next (change_view change))) }
     ensures exact { Leaves result (changed (list_view p) author next (change_view change)) }
 {
-    let part = boxed(alloc, p)?;
-    match changed(alloc, part, author, next, change)? {
-        None => Err(DictEnd::Hid),
-        Some(None) => unreachable!(),
-        Some(Some(top)) => Ok(Box::into_inner(top)),
-    }
+    changed_list(alloc, p, author, next, change)
 }

@@ -3,7 +3,7 @@ ghost use Rattle.pruned_list.specs.PrunedList.{join, split};
 ghost use Rattle.std.specs.Option.{option_map};
 ghost use Rattle.std.specs.Prelude.{◌≡◌};
 
-use crate::parts::{Part, placed, taken};
+use crate::parts::{Part, over, taken};
 use crate::pruned_dict::PrunedDict;
 use tree_model::above;
 
@@ -33,41 +33,11 @@ pub(crate) fn join(smaller: Part, greater: Part) -> Option<Part>
             },
         ) => {
             if above(f.user, e.user) {
-                let whole = placed(
-                    a,
-                    PrunedDict::Node {
-                        entry: e,
-                        left: l,
-                        right: r,
-                    },
-                );
-                let inner = join(whole, m)?;
-                return Some(placed(
-                    b,
-                    PrunedDict::Node {
-                        entry: f,
-                        left: inner,
-                        right: q,
-                    },
-                ));
+                let inner = join(over(a, e, l, r), m)?;
+                return Some(over(b, f, inner, q));
             }
-            let whole = placed(
-                b,
-                PrunedDict::Node {
-                    entry: f,
-                    left: m,
-                    right: q,
-                },
-            );
-            let inner = join(r, whole)?;
-            Some(placed(
-                a,
-                PrunedDict::Node {
-                    entry: e,
-                    left: l,
-                    right: inner,
-                },
-            ))
+            let inner = join(r, over(b, f, m, q))?;
+            Some(over(a, e, l, inner))
         }
         _ => None,
     }
@@ -87,25 +57,11 @@ pub(crate) fn split(part: Part, user: u32) -> Option<(Part, Part)>
         PrunedDict::Node { entry, left, right } => {
             if entry.user < user {
                 let (smaller, greater) = split(right, user)?;
-                let smaller = placed(
-                    top,
-                    PrunedDict::Node {
-                        entry,
-                        left,
-                        right: smaller,
-                    },
-                );
+                let smaller = over(top, entry, left, smaller);
                 return Some((smaller, greater));
             }
             let (smaller, greater) = split(left, user)?;
-            let greater = placed(
-                top,
-                PrunedDict::Node {
-                    entry,
-                    left: greater,
-                    right,
-                },
-            );
+            let greater = over(top, entry, greater, right);
             Some((smaller, greater))
         }
     }

@@ -14,6 +14,9 @@ mod look_up;
 mod parts;
 mod pruned_dict;
 mod reading;
+mod spelled;
+#[cfg(test)]
+mod tests;
 mod writing;
 
 pub use change::{Change, DictEnd};
@@ -24,4 +27,5 @@ pub use limits::LEVELS_MAX;
 pub use look_up::{Found, find};
 pub use pruned_dict::{Dicts, PrunedDict};
 pub use reading::read_dict;
+pub use spelled::is_spelled;
 pub use writing::write_dict;

@@ -1,9 +1,11 @@
 ghost use Rattle.dict_proof.specs.View.{list_view, part_view};
+ghost use Rattle.pruned_list.specs.PrunedList.{node};
 ghost use Rattle.std.specs.Prelude.{◌≡◌, IfOk};
 
 use crate::pruned_dict::PrunedDict;
 use fr_bytes::NoMemory;
 use std::alloc::Global;
+use tree_model::Entry;
 
 /// A part of a pruned list: `None` where it has no entries.
 pub(crate) type Part = Option<Box<PrunedDict>>;
@@ -15,12 +17,26 @@ pub(crate) fn taken(place: &mut Box<PrunedDict>) -> PrunedDict
     Box::replace(place, PrunedDict::Hidden([0; 32]))
 }
 
-/// The part that this list is, in the memory of another.
-pub(crate) fn placed(mut place: Box<PrunedDict>, list: PrunedDict) -> Part
-    ensures { part_view result ≡ list_view list }
+/// An entry over its parts, in the memory of another.
+#[tactic(auto, using(crate::proofs::Views::list_views))]
+pub(crate) fn over(mut place: Box<PrunedDict>, entry: Entry, left: Part, right: Part) -> Part
+    ensures { part_view result ≡ node entry (part_view left) (part_view right) }
 {
-    *place = list;
+    *place = PrunedDict::Node { entry, left, right };
     Some(place)
+}
+
+/// An entry over its parts, in memory of its own.
+#[tactic(auto, using(crate::proofs::Views::list_views))]
+pub(crate) fn boxed_over(
+    alloc: Global,
+    entry: Entry,
+    left: Part,
+    right: Part,
+) -> Result<Part, NoMemory>
+    ensures { IfOk result (λ part. part_view part ≡ node entry (part_view left) (part_view right)) }
+{
+    boxed(alloc, PrunedDict::Node { entry, left, right })
 }
 
 /// The part that this list is.
