@@ -1,0 +1,4 @@
+pub mod Chunking
+pub mod Keeping
+pub mod Nodes
+pub mod Places
