@@ -1,5 +1,6 @@
 -- The nodes of a version, and their halves.
 use Rattle.std.proofs.Common.{◌≡◌, ℕ, zero, suc, ◌+◌, ◌-◌, ◌^◌, ◌<◌, ◌≤◌, List, ◌++◌, length, take, drop, ap, sym, ◌∙◌, inl, inr, arith}
+use Rattle.std.specs.Prelude.{min}
 use Rattle.std.proofs.lemmas.Bool.{cases_lt}
 use Rattle.std.proofs.lemmas.List.{drop-drop, drop-take, length-drop, length-take, length-take-le, take-append-le, take-take, take_all}
 use Rattle.std.proofs.lemmas.Nat.{pow_pos}
@@ -9,27 +10,33 @@ use Rattle.tree_model.proofs.HistoryLaws.{depth-fits, depth-least, part-pair, pa
 use Rattle.tree_model.specs.History.{depth, pair_string, part, root, single_string}
 use Rattle.hist_tree.specs.Nodes.{node_texts}
 
-twice : (j : ℕ) → 2 ^ suc j ≡ 2 ^ j + 2 ^ j
+pub twice : (j : ℕ) → 2 ^ suc j ≡ 2 ^ j + 2 ^ j
 twice j = let double = pow-suc 2 j in omega arith
 
 -- the texts of a version from a position on
-length-rest : (size start : ℕ) (M : List (List ℕ)) → size ≤ length M → length (drop start (take size M)) ≡ size - start
+pub length-rest : (size start : ℕ) (M : List (List ℕ)) → size ≤ length M → length (drop start (take size M)) ≡ size - start
 length-rest size start M within =
     length-drop start (take size M) ∙ ap (λ n. n - start) (length-take-le size M within)
 
-left-half : (size j start : ℕ) (M : List (List ℕ)) → take (2 ^ j) (node_texts size (suc j) start M) ≡ node_texts size j start M
+pub length-node : (size level start : ℕ) (M : List (List ℕ)) → size ≤ length M
+    → length (node_texts size level start M) ≡ min (2 ^ level) (size - start)
+unfolding node_texts
+length-node size level start M within =
+    length-take (2 ^ level) (drop start (take size M)) ∙ ap (λ n. min (2 ^ level) n) (length-rest size start M within)
+
+pub left-half : (size j start : ℕ) (M : List (List ℕ)) → take (2 ^ j) (node_texts size (suc j) start M) ≡ node_texts size j start M
 unfolding node_texts
 left-half size j start M =
     let double = twice j in take-take (2 ^ j) (2 ^ suc j) (drop start (take size M)) (omega arith)
 
-right-half : (size j start : ℕ) (M : List (List ℕ)) → drop (2 ^ j) (node_texts size (suc j) start M) ≡ node_texts size j (start + 2 ^ j) M
+pub right-half : (size j start : ℕ) (M : List (List ℕ)) → drop (2 ^ j) (node_texts size (suc j) start M) ≡ node_texts size j (start + 2 ^ j) M
 unfolding node_texts
 right-half size j start M =
     ap (λ n. drop (2 ^ j) (take n (drop start (take size M)))) (twice j)
     ∙ drop-take (2 ^ j) (2 ^ j) (drop start (take size M))
     ∙ ap (λ (xs : List (List ℕ)). take (2 ^ j) xs) (drop-drop (2 ^ j) start (take size M))
 
-only-half : (size j start : ℕ) (M : List (List ℕ)) → size ≤ length M → size - start ≤ 2 ^ j → node_texts size (suc j) start M ≡ node_texts size j start M
+pub only-half : (size j start : ℕ) (M : List (List ℕ)) → size ≤ length M → size - start ≤ 2 ^ j → node_texts size (suc j) start M ≡ node_texts size j start M
 unfolding node_texts
 only-half size j start M within few =
     let len = length-rest size start M within in

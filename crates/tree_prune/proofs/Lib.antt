@@ -1,0 +1,5 @@
+pub mod Least
+pub mod LeastLaws
+pub mod Marks
+pub mod Steps
+pub mod Wants

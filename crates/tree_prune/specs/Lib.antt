@@ -1,0 +1,2 @@
+pub mod LeastHistory
+pub mod Wanted

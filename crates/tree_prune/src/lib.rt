@@ -1,0 +1,8 @@
+//! Prunings that are made: the least part of a history that shows what a reader is to see.
+#![tactic(auto)]
+
+pub mod history;
+#[cfg(test)]
+mod tests;
+
+pub use history::{prune, prune_at};
