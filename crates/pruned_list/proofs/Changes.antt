@@ -13,12 +13,14 @@ use Rattle.pruned_list.proofs.Options.{then-some}
 use Rattle.pruned_list.proofs.Removals.{next-prunes, remove-prunes}
 
 pub not_author : (E : List Entry) (author u : ℕ) → IsListed E author → entry_of E u ≡ None → u ≢ author
-not_author E author u listed none same = let here : entry_of E author ≡ None = rw (← same) none in let found = listed.1 in cc
+not_author E author u listed none same = let here : entry_of E author ≡ None = rw (← same) none in let found =
+    listed.1 in cc
 
 author-stays : (E : List Entry) (author next : ℕ) → IsListed E author → IsListed (with_next author next E) author
 author-stays E author next listed = (
   record listed.0 { next = next },
-  with_next-own author next E ∙ ap (λ (o : Option Entry). option_map (λ (e : Entry). record e { next = next }) o) listed.1,
+  with_next-own author next E ∙ ap (λ (o : Option Entry). option_map (λ (e : Entry). record e { next = next }) o)
+      listed.1,
 )
 
 some-left : (E : List Entry) (author next : ℕ) (change : ListChange) → FitsChange E author change
@@ -30,7 +32,8 @@ some-left E author next (adds e) fit =
 some-left E author next (drops u) fit =
     let listed = author-stays E author next fit.0 in
     let other : author ≢ u = λ is. fit.2 (sym is) in
-    listed-some (without u (with_next author next E)) author listed.0 (without-other u author (with_next author next E) other ∙ listed.1)
+    listed-some (without u (with_next author next E)) author listed.0
+    (without-other u author (with_next author next E) other ∙ listed.1)
 
 carry-prunes : (d : Digest) (p : PrunedList) (E : List Entry) (author next : ℕ) (change : ListChange) (q : PrunedList)
     → IsRising E → FitsChange E author change → PrunesList d p (with_next author next E) → carry change p ≡ Some q
@@ -50,5 +53,6 @@ changed-prunes d p E author next change q rising fit h is = record {
   some = some-left E author next change fit;
   parts =
       then-some (PrunesList d q (changed_set E author next change)) (carry change) (set_next author next p) q is
-      (λ c c-is q-is. carry-prunes d c E author next change q rising fit (next-prunes d author next p E c h.parts c-is) q-is);
+      (λ c c-is q-is. carry-prunes d c E author next change q rising fit
+      (next-prunes d author next p E c h.parts c-is) q-is);
 }

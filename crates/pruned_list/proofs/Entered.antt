@@ -25,14 +25,16 @@ unfolding bare under_users
 under_users-bare u onto onto' each absent = refl
 under_users-bare u onto onto' each (hidden y) = refl
 under_users-bare u onto onto' each (node f m q) =
-    ap (λ (us : List ℕ). u ∷ (f.user ∷ cond (is_above f.user u) us (onto (bare (node f m q))))) (under_users-bare u onto onto' each m)
+    ap (λ (us : List ℕ). u ∷ (f.user ∷ cond (is_above f.user u) us (onto (bare (node f m q)))))
+    (under_users-bare u onto onto' each m)
     ∙ ap (λ (us : List ℕ). u ∷ (f.user ∷ cond (is_above f.user u) (under_users u onto' m) us)) (each (node f m q))
 
 join_users-bare : (a b : PrunedList) → join_users (bare a) (bare b) ≡ join_users a b
 unfolding bare join_users
 join_users-bare absent b = refl
 join_users-bare (hidden x) b = refl
-join_users-bare (node e l r) b = under_users-bare e.user (join_users (bare r)) (join_users r) (λ c. join_users-bare r c) b
+join_users-bare (node e l r) b =
+    under_users-bare e.user (join_users (bare r)) (join_users r) (λ c. join_users-bare r c) b
 
 removal-bare : (u : ℕ) (p : PrunedList) → removal u (bare p) ≡ removal u p
 unfolding bare removal
@@ -50,13 +52,17 @@ set_next-bare user next (node e l r) c is = elim (cases_order user e.user) [
       let it : node (record e { next = next }) l r ≡ c = cc in
       ap bare (sym it)
   | inr (inl less) ↦
-      let made : option_map (λ c. node e c r) (set_next user next l) ≡ Some c = rw (ne_eqb user e.user (λ is. omega arith), lt-ltb user e.user less) at is in
+      let made : option_map (λ c. node e c r) (set_next user next l) ≡ Some
+      c = rw (ne_eqb user e.user (λ is. omega arith), lt-ltb user e.user less) at is in
       map-some (λ (q : PrunedList). bare q ≡ bare (node e l r)) (λ c. node e c r) (set_next user next l) c made
-      (λ part part-is. ap (λ (q : PrunedList). node (record e { next = 0 }) q (bare r)) (set_next-bare user next l part part-is))
+      (λ part part-is. ap (λ (q : PrunedList). node (record e { next = 0 }) q (bare r))
+      (set_next-bare user next l part part-is))
   | inr (inr more) ↦
-      let made : option_map (λ c. node e l c) (set_next user next r) ≡ Some c = rw (ne_eqb user e.user (λ is. omega arith), le-ltb user e.user (omega arith)) at is in
+      let made : option_map (λ c. node e l c) (set_next user next r) ≡ Some
+      c = rw (ne_eqb user e.user (λ is. omega arith), le-ltb user e.user (omega arith)) at is in
       map-some (λ (q : PrunedList). bare q ≡ bare (node e l r)) (λ c. node e l c) (set_next user next r) c made
-      (λ part part-is. ap (λ (q : PrunedList). node (record e { next = 0 }) (bare l) q) (set_next-bare user next r part part-is))
+      (λ part part-is. ap (λ (q : PrunedList). node (record e { next = 0 }) (bare l) q)
+      (set_next-bare user next r part part-is))
 ]
 
 -- after a next number was set

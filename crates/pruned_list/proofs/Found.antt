@@ -20,7 +20,8 @@ unfolding IsWhole seek
 seek-found absent u h = tt
 seek-found (hidden x) u h = absurd h
 seek-found (node e l r) u h =
-    one_of (nat_eq u e.user) (found (Some e)) _ tt (one_of (nat_lt u e.user) _ _ (seek-found l u h.0) (seek-found r u h.1))
+    one_of (nat_eq u e.user) (found (Some e)) _ tt (one_of (nat_lt u e.user) _ _ (seek-found l u h.0)
+    (seek-found r u h.1))
 
 with-found : (P : Type 0) (s : Sought) → IsFound s → ((o : Option Entry) → s ≡ found o → P) → P
 with-found P hid h each = absurd h

@@ -60,18 +60,25 @@ insert-prunes d e (node f l r) E c rising none h is =
           let root : top_of (with_entry e E) ≡ Some f = rw (above-asym f.user e.user above) at top in
           elim (cases_lt e.user f.user) [
             | inl less ↦
-                let made : option_map (λ c. node f c r) (insert e l) ≡ Some c = rw (above, lt-ltb e.user f.user less) at is in
+                let made : option_map (λ c. node f c r) (insert e l) ≡ Some
+                c = rw (above, lt-ltb e.user f.user less) at is in
                 map-some (λ (q : PrunedList). PrunesList d q (with_entry e E)) (λ c. node f c r) (insert e l) c made
-                (λ part part-is. to_left d e f part r E root less (insert-prunes d e l (smaller f.user E) part (rising-smaller f.user E rising) (absent-filter (λ (x : Entry). ltb x.user f.user) e.user E none) h.1 part-is) h.2)
+                (λ part part-is. to_left d e f part r E root less
+                (insert-prunes d e l (smaller f.user E) part (rising-smaller f.user E rising)
+                (absent-filter (λ (x : Entry). ltb x.user f.user) e.user E none) h.1 part-is) h.2)
             | inr not_less ↦
-                let made : option_map (λ c. node f l c) (insert e r) ≡ Some c = rw (above, le-ltb e.user f.user not_less) at is in
+                let made : option_map (λ c. node f l c) (insert e r) ≡ Some
+                c = rw (above, le-ltb e.user f.user not_less) at is in
                 let more : f.user < e.user = omega arith in
                 map-some (λ (q : PrunedList). PrunesList d q (with_entry e E)) (λ c. node f l c) (insert e r) c made
-                (λ part part-is. to_right d e f l part E root more h.1 (insert-prunes d e r (greater f.user E) part (rising-greater f.user E rising) (absent-filter (λ (x : Entry). ltb f.user x.user) e.user E none) h.2 part-is))
+                (λ part part-is. to_right d e f l part E root more h.1
+                (insert-prunes d e r (greater f.user E) part (rising-greater f.user E rising)
+                (absent-filter (λ (x : Entry). ltb f.user x.user) e.user E none) h.2 part-is))
           ]
       | inr not_above ↦
           let made : option_map (over e) (split (node f l r) e.user) ≡ Some c = rw not_above at is in
           let root : top_of (with_entry e E) ≡ Some e = rw (above-other f.user e.user other not_above) at top in
           map-some (λ (q : PrunedList). PrunesList d q (with_entry e E)) (over e) (split (node f l r) e.user) c made
-          (λ parts parts-is. on_top d e parts E root (split-prunes d (node f l r) e.user E parts rising none h parts-is))
+          (λ parts parts-is. on_top d e parts E root (split-prunes d (node f l r) e.user E parts rising none h
+          parts-is))
     ]

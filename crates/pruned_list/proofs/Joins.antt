@@ -46,11 +46,13 @@ left_on_top d X Y e f l c rising top top' above left right =
     let root : top_of (X ++ Y) ≡ Some e = rw above at (top-append X Y e f top top') in
     (root, rw (smaller-append_left X Y e rising among) left, rw (greater-append_left X Y e rising among) right)
 
-rising-left_part : (X Y : List Entry) (f : Entry) → IsRising (X ++ Y) → top_of Y ≡ Some f → IsRising (X ++ smaller f.user Y)
+rising-left_part : (X Y : List Entry) (f : Entry) → IsRising (X ++ Y) → top_of Y ≡ Some f
+    → IsRising (X ++ smaller f.user Y)
 rising-left_part X Y f rising top =
     subst IsRising (smaller-append_right X Y f rising (top-among Y f top)) (rising-smaller f.user (X ++ Y) rising)
 
-rising-right_part : (X Y : List Entry) (e : Entry) → IsRising (X ++ Y) → top_of X ≡ Some e → IsRising (greater e.user X ++ Y)
+rising-right_part : (X Y : List Entry) (e : Entry) → IsRising (X ++ Y) → top_of X ≡ Some e
+    → IsRising (greater e.user X ++ Y)
 rising-right_part X Y e rising top =
     subst IsRising (greater-append_left X Y e rising (top-among X e top)) (rising-greater e.user (X ++ Y) rising)
 
@@ -63,11 +65,14 @@ under-prunes d e l r onto X h each (node f m q) Y c rising hY is = elim (cases_B
   | inl above ↦
       let made : option_map (λ c. node f c q) (under e l r onto m) ≡ Some c = rw above at is in
       map-some (λ (p : PrunedList). PrunesList d p (X ++ Y)) (λ c. node f c q) (under e l r onto m) c made
-      (λ part part-is. right_on_top d X Y e f part q rising h.0 hY.0 above (under-prunes d e l r onto X h each m (smaller f.user Y) part (rising-left_part X Y f rising hY.0) hY.1 part-is) hY.2)
+      (λ part part-is. right_on_top d X Y e f part q rising h.0 hY.0 above
+      (under-prunes d e l r onto X h each m (smaller f.user Y) part (rising-left_part X Y f rising hY.0) hY.1
+      part-is) hY.2)
   | inr above ↦
       let made : option_map (λ c. node e l c) (onto (node f m q)) ≡ Some c = rw above at is in
       map-some (λ (p : PrunedList). PrunesList d p (X ++ Y)) (λ c. node e l c) (onto (node f m q)) c made
-      (λ part part-is. left_on_top d X Y e f l part rising h.0 hY.0 above h.1 (each (node f m q) Y part (rising-right_part X Y e rising h.0) hY part-is))
+      (λ part part-is. left_on_top d X Y e f l part rising h.0 hY.0 above h.1
+      (each (node f m q) Y part (rising-right_part X Y e rising h.0) hY part-is))
 ]
 
 hidden-prunes : (d : Digest) (x : List ℕ) (X : List Entry) → PrunesList d (hidden x) X → Onto d (onto_hidden x) X

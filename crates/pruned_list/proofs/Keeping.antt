@@ -18,7 +18,8 @@ unfolding PrunesList kept part_digest
 kept-prunes d keep absent E h = h
 kept-prunes d keep (hidden x) E h = h
 kept-prunes d keep (node e l r) E h =
-    elim (keep e.user) as (λ b. PrunesList d (cond b (node e (kept d keep l) (kept d keep r)) (hidden (d (node_text e (part_digest d l) (part_digest d r))))) E) [
+    elim (keep e.user) as (λ b. PrunesList d (cond b (node e (kept d keep l) (kept d keep r))
+    (hidden (d (node_text e (part_digest d l) (part_digest d r))))) E) [
       | true ↦ (h.0, kept-prunes d keep l (smaller e.user E) h.1, kept-prunes d keep r (greater e.user E) h.2)
       | false ↦ sym (digest-set d (node e l r) E h)
     ]
@@ -62,13 +63,15 @@ seek-kept d keep (node e l r) u h = elim (cases_order u e.user) [
 ]
 
 kept-left : (d : Digest) (keep : ℕ → Bool) (e : Entry) (r : PrunedList) (o : Option PrunedList) → keep e.user ≡ true
-    → option_map (λ c. node e c (kept d keep r)) (option_map (kept d keep) o) ≡ option_map (kept d keep) (option_map (λ c. node e c r) o)
+    → option_map (λ c. node e c (kept d keep r)) (option_map (kept d keep) o) ≡ option_map (kept d keep)
+    (option_map (λ c. node e c r) o)
 unfolding kept
 kept-left d keep e r None h = refl
 kept-left d keep e r (Some c) h = rw h refl
 
 kept-right : (d : Digest) (keep : ℕ → Bool) (e : Entry) (l : PrunedList) (o : Option PrunedList) → keep e.user ≡ true
-    → option_map (λ c. node e (kept d keep l) c) (option_map (kept d keep) o) ≡ option_map (kept d keep) (option_map (λ c. node e l c) o)
+    → option_map (λ c. node e (kept d keep l) c) (option_map (kept d keep) o) ≡ option_map (kept d keep)
+    (option_map (λ c. node e l c) o)
 unfolding kept
 kept-right d keep e l None h = refl
 kept-right d keep e l (Some c) h = rw h refl
@@ -83,11 +86,13 @@ set_next-kept d keep user next (node e l r) h = elim (cases_order user e.user) [
   | inr (inl less) ↦
       let behind = rw (ne_eqb user e.user (λ is. omega arith), lt-ltb user e.user less) at h in
       rw h.0 (rw (ne_eqb user e.user (λ is. omega arith), lt-ltb user e.user less)
-      (ap (λ (o : Option PrunedList). option_map (λ c. node e c (kept d keep r)) o) (set_next-kept d keep user next l behind.1) ∙ kept-left d keep e r (set_next user next l) h.0))
+      (ap (λ (o : Option PrunedList). option_map (λ c. node e c (kept d keep r)) o)
+      (set_next-kept d keep user next l behind.1) ∙ kept-left d keep e r (set_next user next l) h.0))
   | inr (inr more) ↦
       let behind = rw (ne_eqb user e.user (λ is. omega arith), le-ltb user e.user (omega arith)) at h in
       rw h.0 (rw (ne_eqb user e.user (λ is. omega arith), le-ltb user e.user (omega arith))
-      (ap (λ (o : Option PrunedList). option_map (λ c. node e (kept d keep l) c) o) (set_next-kept d keep user next r behind.1) ∙ kept-right d keep e l (set_next user next r) h.0))
+      (ap (λ (o : Option PrunedList). option_map (λ c. node e (kept d keep l) c) o)
+      (set_next-kept d keep user next r behind.1) ∙ kept-right d keep e l (set_next user next r) h.0))
 ]
 
 -- ---- insertions
@@ -103,12 +108,15 @@ split-kept d keep (node e l r) u none h some = elim (cases_order u e.user) [
       let none' = rw (ne_eqb u e.user (λ is. omega arith), lt-ltb u e.user less) at none in
       let behind = rw (ne_eqb u e.user (λ is. omega arith), lt-ltb u e.user less) at h in
       let some' = rw (le-ltb e.user u (omega arith)) at some in
-      rw h.0 (rw (le-ltb e.user u (omega arith)) (is_some-map (greater_over e (kept d keep r)) (split (kept d keep l) u) (split-kept d keep l u none' behind.1 (is_some-mapped (greater_over e r) (split l u) some'))))
+      rw h.0 (rw (le-ltb e.user u (omega arith)) (is_some-map (greater_over e (kept d keep r))
+      (split (kept d keep l) u) (split-kept d keep l u none' behind.1
+      (is_some-mapped (greater_over e r) (split l u) some'))))
   | inr (inr more) ↦
       let none' = rw (ne_eqb u e.user (λ is. omega arith), le-ltb u e.user (omega arith)) at none in
       let behind = rw (ne_eqb u e.user (λ is. omega arith), le-ltb u e.user (omega arith)) at h in
       let some' = rw (lt-ltb e.user u more) at some in
-      rw h.0 (rw (lt-ltb e.user u more) (is_some-map (smaller_over e (kept d keep l)) (split (kept d keep r) u) (split-kept d keep r u none' behind.1 (is_some-mapped (smaller_over e l) (split r u) some'))))
+      rw h.0 (rw (lt-ltb e.user u more) (is_some-map (smaller_over e (kept d keep l)) (split (kept d keep r) u)
+      (split-kept d keep r u none' behind.1 (is_some-mapped (smaller_over e l) (split r u) some'))))
 ]
 
 -- the entry comes in above the node
@@ -135,12 +143,16 @@ insert-kept d keep e (node f l r) none h some = elim (cases_Bool (is_above f.use
         let none' = rw (ne_eqb e.user f.user (λ is. omega arith), lt-ltb e.user f.user less) at none in
         let behind = rw (ne_eqb e.user f.user (λ is. omega arith), lt-ltb e.user f.user less) at h in
         let some' = rw (above, lt-ltb e.user f.user less) at some in
-        rw h.0 (rw (above, lt-ltb e.user f.user less) (is_some-map (λ c. node f c (kept d keep r)) (insert e (kept d keep l)) (insert-kept d keep e l none' behind.1 (is_some-mapped (λ c. node f c r) (insert e l) some'))))
+        rw h.0 (rw (above, lt-ltb e.user f.user less) (is_some-map (λ c. node f c (kept d keep r))
+        (insert e (kept d keep l)) (insert-kept d keep e l none' behind.1
+        (is_some-mapped (λ c. node f c r) (insert e l) some'))))
     | inr (inr more) ↦
         let none' = rw (ne_eqb e.user f.user (λ is. omega arith), le-ltb e.user f.user (omega arith)) at none in
         let behind = rw (ne_eqb e.user f.user (λ is. omega arith), le-ltb e.user f.user (omega arith)) at h in
         let some' = rw (above, le-ltb e.user f.user (omega arith)) at some in
-        rw h.0 (rw (above, le-ltb e.user f.user (omega arith)) (is_some-map (λ c. node f (kept d keep l) c) (insert e (kept d keep r)) (insert-kept d keep e r none' behind.1 (is_some-mapped (λ c. node f l c) (insert e r) some'))))
+        rw h.0 (rw (above, le-ltb e.user f.user (omega arith))
+        (is_some-map (λ c. node f (kept d keep l) c) (insert e (kept d keep r))
+        (insert-kept d keep e r none' behind.1 (is_some-mapped (λ c. node f l c) (insert e r) some'))))
   ]
 ]
 
@@ -152,7 +164,8 @@ abbrev KeepsOnto : Digest → (ℕ → Bool) → (PrunedList → Option PrunedLi
 KeepsOnto d keep onto users onto' =
     (b : PrunedList) → Keeps keep (users b) → IsSome (onto b) → IsSome (onto' (kept d keep b))
 
-under-kept : (d : Digest) (keep : ℕ → Bool) (e : Entry) (l r l' r' : PrunedList) (onto : PrunedList → Option PrunedList)
+under-kept : (d : Digest) (keep : ℕ → Bool) (e : Entry) (l r l' r' : PrunedList)
+    (onto : PrunedList → Option PrunedList)
     (users : PrunedList → List ℕ) (onto' : PrunedList → Option PrunedList) → KeepsOnto d keep onto users onto'
     → KeepsOnto d keep (under e l r onto) (under_users e.user users) (under e l' r' onto')
 unfolding kept under under_users
@@ -162,7 +175,9 @@ under-kept d keep e l r l' r' onto users onto' each (node f m q) h some = elim (
   | inl above ↦
       let behind = rw above at h.1.1 in
       let some' = rw above at some in
-      rw h.1.0 (rw above (is_some-map (λ c. node f c (kept d keep q)) (under e l' r' onto' (kept d keep m)) (under-kept d keep e l r l' r' onto users onto' each m behind (is_some-mapped (λ c. node f c q) (under e l r onto m) some'))))
+      rw h.1.0 (rw above (is_some-map (λ c. node f c (kept d keep q)) (under e l' r' onto' (kept d keep m))
+      (under-kept d keep e l r l' r' onto users onto' each m behind
+      (is_some-mapped (λ c. node f c q) (under e l r onto m) some'))))
   | inr above ↦
       let behind = rw above at h.1.1 in
       let some' = rw above at some in
@@ -177,7 +192,8 @@ join-nothing absent = refl
 join-nothing (hidden x) = refl
 join-nothing (node e l r) = refl
 
-pub join-kept : (d : Digest) (keep : ℕ → Bool) (a : PrunedList) → KeepsOnto d keep (join a) (join_users a) (join (kept d keep a))
+pub join-kept : (d : Digest) (keep : ℕ → Bool) (a : PrunedList)
+    → KeepsOnto d keep (join a) (join_users a) (join (kept d keep a))
 unfolding join join_users kept under under_users
 join-kept d keep absent b h some = refl
 join-kept d keep (hidden x) absent h some = refl
@@ -186,7 +202,8 @@ join-kept d keep (hidden x) (node f m q) h some = absurd cc
 join-kept d keep (node e l r) absent h some = join-nothing (kept d keep (node e l r))
 join-kept d keep (node e l r) (hidden y) h some = absurd cc
 join-kept d keep (node e l r) (node f m q) h some =
-    rw h.0 (under-kept d keep e l r (kept d keep l) (kept d keep r) (join r) (join_users r) (join (kept d keep r)) (join-kept d keep r) (node f m q) h some)
+    rw h.0 (under-kept d keep e l r (kept d keep l) (kept d keep r) (join r) (join_users r) (join (kept d keep r))
+    (join-kept d keep r) (node f m q) h some)
 
 pub remove-kept : (d : Digest) (keep : ℕ → Bool) (u : ℕ) (p : PrunedList) → Keeps keep (removal u p)
     → IsSome (remove u p) → IsSome (remove u (kept d keep p))
@@ -201,9 +218,13 @@ remove-kept d keep u (node e l r) h some = elim (cases_order u e.user) [
   | inr (inl less) ↦
       let behind = rw (ne_eqb u e.user (λ is. omega arith), lt-ltb u e.user less) at h in
       let some' = rw (ne_eqb u e.user (λ is. omega arith), lt-ltb u e.user less) at some in
-      rw h.0 (rw (ne_eqb u e.user (λ is. omega arith), lt-ltb u e.user less) (is_some-map (λ c. node e c (kept d keep r)) (remove u (kept d keep l)) (remove-kept d keep u l behind.1 (is_some-mapped (λ c. node e c r) (remove u l) some'))))
+      rw h.0 (rw (ne_eqb u e.user (λ is. omega arith), lt-ltb u e.user less)
+      (is_some-map (λ c. node e c (kept d keep r)) (remove u (kept d keep l))
+      (remove-kept d keep u l behind.1 (is_some-mapped (λ c. node e c r) (remove u l) some'))))
   | inr (inr more) ↦
       let behind = rw (ne_eqb u e.user (λ is. omega arith), le-ltb u e.user (omega arith)) at h in
       let some' = rw (ne_eqb u e.user (λ is. omega arith), le-ltb u e.user (omega arith)) at some in
-      rw h.0 (rw (ne_eqb u e.user (λ is. omega arith), le-ltb u e.user (omega arith)) (is_some-map (λ c. node e (kept d keep l) c) (remove u (kept d keep r)) (remove-kept d keep u r behind.1 (is_some-mapped (λ c. node e l c) (remove u r) some'))))
+      rw h.0 (rw (ne_eqb u e.user (λ is. omega arith), le-ltb u e.user (omega arith))
+      (is_some-map (λ c. node e (kept d keep l) c) (remove u (kept d keep r))
+      (remove-kept d keep u r behind.1 (is_some-mapped (λ c. node e l c) (remove u r) some'))))
 ]

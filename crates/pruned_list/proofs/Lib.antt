@@ -1,6 +1,7 @@
 pub mod Changes
 pub mod Entered
 pub mod Found
+pub mod Heaps
 pub mod Insertions
 pub mod Joins
 pub mod Keeping

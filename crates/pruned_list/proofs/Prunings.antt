@@ -50,10 +50,12 @@ seek-finds d (node t l r) E u o rising h e = elim (cases_order u t.user) [
       rw same (among-entry_of E t rising (top-among E t h.0) ∙ is)
   | inr (inl less) ↦
       let left : seek l u ≡ found o = rw (ne_eqb u t.user (λ is. omega arith), lt-ltb u t.user less) at e in
-      sym (smaller-looked_up t.user u E less) ∙ seek-finds d l (smaller t.user E) u o (rising-smaller t.user E rising) h.1 left
+      sym (smaller-looked_up t.user u E less) ∙ seek-finds d l (smaller t.user E) u o
+      (rising-smaller t.user E rising) h.1 left
   | inr (inr more) ↦
       let right : seek r u ≡ found o = rw (ne_eqb u t.user (λ is. omega arith), le-ltb u t.user (omega arith)) at e in
-      sym (greater-looked_up t.user u E more) ∙ seek-finds d r (greater t.user E) u o (rising-greater t.user E rising) h.2 right
+      sym (greater-looked_up t.user u E more) ∙ seek-finds d r (greater t.user E) u o
+      (rising-greater t.user E rising) h.2 right
 ]
 
 -- ---- whole lists
@@ -65,7 +67,11 @@ unfolding PrunesList IsWhole in_order
 whole-in_order d absent E rising whole h = sym h
 whole-in_order d (hidden x) E rising whole h = absurd whole
 whole-in_order d (node e l r) E rising whole h =
-    rw (whole-in_order d l (smaller e.user E) (rising-smaller e.user E rising) whole.0 h.1, whole-in_order d r (greater e.user E) (rising-greater e.user E rising) whole.1 h.2)
+    rw (
+      whole-in_order d l (smaller e.user E) (rising-smaller e.user E rising) whole.0 h.1,
+      whole-in_order d r
+          (greater e.user E) (rising-greater e.user E rising) whole.1 h.2,
+    )
     (around-same E e rising (top-among E e h.0))
 
 top-empty : (E : List Entry) (e : Entry) → E ≡ [] → top_of E ≡ Some e → ⊥

@@ -67,13 +67,17 @@ remove-prunes d user (node e l r) E c rising h is = elim (cases_order user e.use
       let made : join l r ≡ Some c = rw (eq-eqb user e.user same) at is in
       rw same (joined d e l r c E rising h made)
   | inr (inl less) ↦
-      let made : option_map (λ c. node e c r) (remove user l) ≡ Some c = rw (ne_eqb user e.user (λ is. omega arith), lt-ltb user e.user less) at is in
+      let made : option_map (λ c. node e c r) (remove user l) ≡ Some
+      c = rw (ne_eqb user e.user (λ is. omega arith), lt-ltb user e.user less) at is in
       map-some (λ (q : PrunedList). PrunesList d q (without user E)) (λ c. node e c r) (remove user l) c made
-      (λ part part-is. from_left d e part r user E rising h.0 less (remove-prunes d user l (smaller e.user E) part (rising-smaller e.user E rising) h.1 part-is) h.2)
+      (λ part part-is. from_left d e part r user E rising h.0 less
+      (remove-prunes d user l (smaller e.user E) part (rising-smaller e.user E rising) h.1 part-is) h.2)
   | inr (inr more) ↦
-      let made : option_map (λ c. node e l c) (remove user r) ≡ Some c = rw (ne_eqb user e.user (λ is. omega arith), le-ltb user e.user (omega arith)) at is in
+      let made : option_map (λ c. node e l c) (remove user r) ≡ Some
+      c = rw (ne_eqb user e.user (λ is. omega arith), le-ltb user e.user (omega arith)) at is in
       map-some (λ (q : PrunedList). PrunesList d q (without user E)) (λ c. node e l c) (remove user r) c made
-      (λ part part-is. from_right d e l part user E rising h.0 more h.1 (remove-prunes d user r (greater e.user E) part (rising-greater e.user E rising) h.2 part-is))
+      (λ part part-is. from_right d e l part user E rising h.0 more h.1
+      (remove-prunes d user r (greater e.user E) part (rising-greater e.user E rising) h.2 part-is))
 ]
 
 -- ---- with a next number
@@ -88,7 +92,8 @@ next-greater t user next E high =
 
 top-numbered : (user next : ℕ) (e : Entry) (E : List Entry) → top_of E ≡ Some e
     → top_of (with_next user next E) ≡ Some (numbered user next e)
-top-numbered user next e E top = top-with_next user next E ∙ ap (λ (o : Option Entry). option_map (numbered user next) o) top
+top-numbered user next e E top =
+    top-with_next user next E ∙ ap (λ (o : Option Entry). option_map (numbered user next) o) top
 
 pub next-prunes : (d : Digest) (user next : ℕ) (p : PrunedList) (E : List Entry) (c : PrunedList)
     → PrunesList d p E → set_next user next p ≡ Some c → PrunesList d c (with_next user next E)
@@ -104,19 +109,34 @@ next-prunes d user next (node e l r) E c h is =
           let it : node (record e { next = next }) l r ≡ c = cc in
           let low : e.user ≤ user = omega arith in
           let high : user ≤ e.user = omega arith in
-          let root : top_of (with_next user next E) ≡ Some (record e { next = next }) = rw (eq-eqb e.user user (sym same)) at top in
+          let root : top_of (with_next user next E) ≡ Some (record e { next = next }) = rw (eq-eqb e.user user
+          (sym same)) at top in
           subst (λ (q : PrunedList). PrunesList d q (with_next user next E)) it
           (root, rw (next-smaller e.user user next E low) h.1, rw (next-greater e.user user next E high) h.2)
       | inr (inl less) ↦
-          let made : option_map (λ c. node e c r) (set_next user next l) ≡ Some c = rw (ne_eqb user e.user (λ is. omega arith), lt-ltb user e.user less) at is in
+          let made : option_map (λ c. node e c r) (set_next user next l) ≡ Some
+          c = rw (ne_eqb user e.user (λ is. omega arith), lt-ltb user e.user less) at is in
           let high : user ≤ e.user = omega arith in
           let root : top_of (with_next user next E) ≡ Some e = rw (ne_eqb e.user user (λ is. omega arith)) at top in
-          map-some (λ (q : PrunedList). PrunesList d q (with_next user next E)) (λ c. node e c r) (set_next user next l) c made
-          (λ part part-is. (root, rw (smaller-with_next e.user user next E) (next-prunes d user next l (smaller e.user E) part h.1 part-is), rw (next-greater e.user user next E high) h.2))
+          map-some (λ (q : PrunedList). PrunesList d q (with_next user next E)) (λ c. node e c r)
+          (set_next user next l) c made
+          (λ part part-is. (
+            root,
+            rw (smaller-with_next e.user user next E)
+                (next-prunes d user next l (smaller e.user E) part h.1 part-is),
+            rw (next-greater e.user user next E high)
+                h.2,
+          ))
       | inr (inr more) ↦
-          let made : option_map (λ c. node e l c) (set_next user next r) ≡ Some c = rw (ne_eqb user e.user (λ is. omega arith), le-ltb user e.user (omega arith)) at is in
+          let made : option_map (λ c. node e l c) (set_next user next r) ≡ Some
+          c = rw (ne_eqb user e.user (λ is. omega arith), le-ltb user e.user (omega arith)) at is in
           let low : e.user ≤ user = omega arith in
           let root : top_of (with_next user next E) ≡ Some e = rw (ne_eqb e.user user (λ is. omega arith)) at top in
-          map-some (λ (q : PrunedList). PrunesList d q (with_next user next E)) (λ c. node e l c) (set_next user next r) c made
-          (λ part part-is. (root, rw (next-smaller e.user user next E low) h.1, rw (greater-with_next e.user user next E) (next-prunes d user next r (greater e.user E) part h.2 part-is)))
+          map-some (λ (q : PrunedList). PrunesList d q (with_next user next E)) (λ c. node e l c)
+          (set_next user next r) c made
+          (λ part part-is. (
+            root,
+            rw (next-smaller e.user user next E low) h.1,
+            rw (greater-with_next e.user user next E) (next-prunes d user next r (greater e.user E) part h.2 part-is),
+          ))
     ]

@@ -27,8 +27,10 @@ set_next-whole user next (hidden x) h = absurd h
 set_next-whole user next (node e l r) h =
     either (nat_eq user e.user) (Some (node (record e { next = next }) l r)) _ h
     (either (nat_lt user e.user) _ _
-    (and-map IsWhole IsWhole (λ c. node e c r) (set_next user next l) (λ c c-whole. (c-whole, h.1)) (set_next-whole user next l h.0))
-    (and-map IsWhole IsWhole (λ c. node e l c) (set_next user next r) (λ c c-whole. (h.0, c-whole)) (set_next-whole user next r h.1)))
+    (and-map IsWhole IsWhole (λ c. node e c r) (set_next user next l) (λ c c-whole. (c-whole, h.1))
+    (set_next-whole user next l h.0))
+    (and-map IsWhole IsWhole (λ c. node e l c) (set_next user next r) (λ c c-whole. (h.0, c-whole))
+    (set_next-whole user next r h.1)))
 
 abbrev pub AreWhole : PrunedList × PrunedList → Type 0
 AreWhole parts = IsWhole parts.0 × IsWhole parts.1
@@ -38,9 +40,12 @@ unfolding IsWhole split
 split-whole absent u h = (tt, tt)
 split-whole (hidden x) u h = absurd h
 split-whole (node e l r) u h =
-    let left = and-map AreWhole AreWhole (smaller_over e l) (split r u) (λ parts whole. ((h.0, whole.0), whole.1)) (split-whole r u h.1) in
-    let right = and-map AreWhole AreWhole (greater_over e r) (split l u) (λ parts whole. (whole.0, (whole.1, h.1))) (split-whole l u h.0) in
-    elim (nat_lt e.user u) as (λ b. IsSomeAnd (cond b (option_map (smaller_over e l) (split r u)) (option_map (greater_over e r) (split l u))) AreWhole) [ true ↦ left | false ↦ right ]
+    let left = and-map AreWhole AreWhole (smaller_over e l) (split r u) (λ parts whole. ((h.0, whole.0), whole.1))
+    (split-whole r u h.1) in
+    let right = and-map AreWhole AreWhole (greater_over e r) (split l u) (λ parts whole. (whole.0, (whole.1, h.1)))
+    (split-whole l u h.0) in
+    elim (nat_lt e.user u) as (λ b. IsSomeAnd (cond b (option_map (smaller_over e l) (split r u))
+    (option_map (greater_over e r) (split l u))) AreWhole) [ true ↦ left | false ↦ right ]
 
 pub insert-whole : (e : Entry) (p : PrunedList) → IsWhole p → IsSomeAnd (insert e p) IsWhole
 unfolding IsWhole insert
@@ -51,7 +56,8 @@ insert-whole e (node f l r) h =
     (either (nat_lt e.user f.user) _ _
     (and-map IsWhole IsWhole (λ c. node f c r) (insert e l) (λ c c-whole. (c-whole, h.1)) (insert-whole e l h.0))
     (and-map IsWhole IsWhole (λ c. node f l c) (insert e r) (λ c c-whole. (h.0, c-whole)) (insert-whole e r h.1)))
-    (and-map AreWhole IsWhole (over e) (split (node f l r) e.user) (λ parts whole. whole) (split-whole (node f l r) e.user h))
+    (and-map AreWhole IsWhole (over e) (split (node f l r) e.user) (λ parts whole. whole)
+    (split-whole (node f l r) e.user h))
 
 under-whole : (e : Entry) (l r : PrunedList) (onto : PrunedList → Option PrunedList) → IsWhole l → IsWhole r
     → ((b : PrunedList) → IsWhole b → IsSomeAnd (onto b) IsWhole) → (b : PrunedList) → IsWhole b
@@ -61,7 +67,8 @@ under-whole e l r onto hl hr each absent h = (hl, hr)
 under-whole e l r onto hl hr each (hidden y) h = absurd h
 under-whole e l r onto hl hr each (node f m q) h =
     either (is_above f.user e.user) _ _
-    (and-map IsWhole IsWhole (λ c. node f c q) (under e l r onto m) (λ c c-whole. (c-whole, h.1)) (under-whole e l r onto hl hr each m h.0))
+    (and-map IsWhole IsWhole (λ c. node f c q) (under e l r onto m) (λ c c-whole. (c-whole, h.1))
+    (under-whole e l r onto hl hr each m h.0))
     (and-map IsWhole IsWhole (λ c. node e l c) (onto (node f m q)) (λ c c-whole. (hl, c-whole)) (each (node f m q) h))
 
 pub join-whole : (a b : PrunedList) → IsWhole a → IsWhole b → IsSomeAnd (join a b) IsWhole
@@ -78,7 +85,8 @@ remove-whole user (node e l r) h =
     either (nat_eq user e.user) (join l r) _ (join-whole l r h.0 h.1)
     (either (nat_lt user e.user) _ _
     (and-map IsWhole IsWhole (λ c. node e c r) (remove user l) (λ c c-whole. (c-whole, h.1)) (remove-whole user l h.0))
-    (and-map IsWhole IsWhole (λ c. node e l c) (remove user r) (λ c c-whole. (h.0, c-whole)) (remove-whole user r h.1)))
+    (and-map IsWhole IsWhole (λ c. node e l c) (remove user r) (λ c c-whole. (h.0, c-whole))
+    (remove-whole user r h.1)))
 
 carry-whole : (change : ListChange) (p : PrunedList) → IsWhole p → IsSomeAnd (carry change p) IsWhole
 carry-whole stays p h = h
@@ -88,4 +96,5 @@ carry-whole (drops user) p h = remove-whole user p h
 pub changed-whole : (p : PrunedList) (author next : ℕ) (change : ListChange) → IsWhole p
     → IsSomeAnd (changed p author next change) IsWhole
 changed-whole p author next change h =
-    and-then IsWhole IsWhole (carry change) (set_next author next p) (λ c c-whole. carry-whole change c c-whole) (set_next-whole author next p h)
+    and-then IsWhole IsWhole (carry change) (set_next author next p) (λ c c-whole. carry-whole change c c-whole)
+    (set_next-whole author next p h)

@@ -42,9 +42,11 @@ put_back : (p : PrunedList) (rest : List Part) (ready : List PrunedList)
 put_back absent rest ready = refl
 put_back (hidden x) rest ready = refl
 put_back (node e l r) rest ready =
-    ap (λ (xs : List Part). put_parts xs ready) (append_assoc (parts_of l) (parts_of r ++ (2, e.user ∷ (e.role ∷ (e.next ∷ []))) ∷ []) rest)
+    ap (λ (xs : List Part). put_parts xs ready) (append_assoc (parts_of l)
+    (parts_of r ++ (2, e.user ∷ (e.role ∷ (e.next ∷ []))) ∷ []) rest)
     ∙ put_back l ((parts_of r ++ (2, e.user ∷ (e.role ∷ (e.next ∷ []))) ∷ []) ++ rest) ready
-    ∙ ap (λ (xs : List Part). put_parts xs (l ∷ ready)) (append_assoc (parts_of r) ((2, e.user ∷ (e.role ∷ (e.next ∷ []))) ∷ []) rest)
+    ∙ ap (λ (xs : List Part). put_parts xs (l ∷ ready)) (append_assoc (parts_of r)
+    ((2, e.user ∷ (e.role ∷ (e.next ∷ []))) ∷ []) rest)
     ∙ put_back r ((2, e.user ∷ (e.role ∷ (e.next ∷ []))) ∷ rest) (l ∷ ready)
 
 abbrev pub list_back : List Part → PrunedList

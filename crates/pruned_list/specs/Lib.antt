@@ -1,3 +1,4 @@
 pub mod Code
 pub mod Kept
 pub mod PrunedList
+pub mod Whole

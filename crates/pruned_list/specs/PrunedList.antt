@@ -139,7 +139,8 @@ onto_hidden x (node f m q) = None
 
 -- A left part that is a node joined with a right one, where `onto` joins the node's own right part with what it
 -- is given.
-unfoldable pub under : Entry → PrunedList → PrunedList → (PrunedList → Option PrunedList) → PrunedList → Option PrunedList
+unfoldable pub under : Entry → PrunedList → PrunedList → (PrunedList → Option PrunedList) → PrunedList
+    → Option PrunedList
 under e l r onto absent = Some (node e l r)
 under e l r onto (hidden y) = None
 under e l r onto (node f m q) =

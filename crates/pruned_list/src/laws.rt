@@ -3,6 +3,8 @@ ghost use Rattle.fr_digest.specs.Digest.{Digest};
 ghost use Rattle.pruned_list.specs.Kept.{Keeps, entered, kept};
 ghost use Rattle.pruned_list.specs.PrunedList.{PrunedList, PrunesDict, PrunesList, IsWhole, byte_count, changed, digest_of, found, in_order, insert, join, levels, part_digest, remove, seek, set_next, split};
 ghost use Rattle.std.specs.Prelude.{◌≡◌, ◌*◌, ◌++◌, ◌≤◌, ℕ, Bool, IsSome, IsSomeAnd, List, None, Option, Some, length};
+ghost use Rattle.pruned_list.specs.Whole.{treap_of};
+ghost use Rattle.tree_model.specs.Treap.{IsTreap, in_order as treap_order};
 ghost use Rattle.tree_model.specs.AccessList.{FitsChange, IsRising, ListChange, adds, changed_set, dict, drops, entry_of, greater, set_digest, smaller, with_entry, with_next, without};
 ghost use Rattle.tree_model.specs.declared.entry.Entry.{Entry};
 
@@ -44,11 +46,13 @@ pub fn steps<D: Digester>()
         → join a b ≡ Some q → PrunesList D.digest_of q (X ++ Y) }
 {}
 
-/// A whole list shows the set that it prunes, and is the only one of the set. A search in it finds what the set
-/// has, and an operation meets nothing hidden and leaves a whole list.
+/// A whole list shows the set that it prunes, is the set's treap, and is the only whole list of the set. A search in
+/// it finds what the set has, and an operation meets nothing hidden and leaves a whole list.
 pub fn wholes<D: Digester>()
     ensures entries { (p : PrunedList) (E : List Entry) → IsRising E → IsWhole p → PrunesList D.digest_of p E
         → in_order p ≡ E }
+    ensures treap { (p : PrunedList) (E : List Entry) → IsRising E → IsWhole p → PrunesList D.digest_of p E
+        → IsTreap (treap_of p) × (treap_order (treap_of p) ≡ E) }
     ensures one { (p q : PrunedList) (E : List Entry) → IsWhole p → IsWhole q
         → PrunesList D.digest_of p E → PrunesList D.digest_of q E → p ≡ q }
     ensures finds { (p : PrunedList) (E : List Entry) (u : ℕ) → IsRising E → IsWhole p
