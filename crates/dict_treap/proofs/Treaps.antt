@@ -1,7 +1,7 @@
 -- Steps of changes of treaps, and what a change leaves of the treap of an access list.
-use Rattle.std.proofs.Common.{◌≡◌, ℕ, ◌<◌, Bool, true, false, List, [], ◌∷◌, length, Option, Some, None, refl, ap, sym, subst, ◌∙◌, ◌++◌, append_assoc, length-append, arith}
-use Rattle.std.specs.Prelude.{IsSomeAnd, nat_lt, not, option_map, unwrap_or}
-use Rattle.std.proofs.lemmas.Bool.{and_parts}
+use Rattle.std.proofs.Common.{◌≡◌, ℕ, ◌<◌, true, List, [], ◌∷◌, length, Option, Some, None, refl, ap, sym, subst, ◌∙◌, ◌++◌, append_assoc, length-append, arith}
+use Rattle.std.specs.Prelude.{IsSomeAnd, nat_le, nat_lt, option_map, unwrap_or}
+use Rattle.std.proofs.lemmas.Bool.{and_parts, le-ltb, leb-true}
 use Rattle.fr_digest.specs.Digest.{Digest}
 use Rattle.tree_model.specs.declared.entry.Entry.{Entry}
 use Rattle.tree_model.specs.AccessList.{IsRising, dict, entry_of, greater, smaller, top_of, with_entry, with_next, without}
@@ -15,7 +15,7 @@ use Rattle.pruned_list.proofs.Prunings.{digest-dict, rising-greater, rising-smal
 use Rattle.pruned_list.proofs.Removals.{next-prunes, remove-prunes}
 use Rattle.pruned_list.proofs.Wholes.{insert-whole, remove-whole, set_next-whole}
 use Rattle.dict_treap.specs.Lists.{where_some}
-use Rattle.dict_treap.specs.Treap.{IsTreap, is_greater, is_smaller, left_of, right_of}
+use Rattle.dict_treap.specs.Treap.{IsVersion, is_greater, is_smaller, left_of, right_of}
 use Rattle.dict_treap.proofs.Versions.{rising-without, without-some}
 
 -- ---- steps
@@ -27,11 +27,8 @@ split-smaller u absent h = refl
 split-smaller u (hidden x) h = absurd cc
 split-smaller u (node e l r) h =
     let tests = and_parts (nat_lt e.user u) (is_smaller u r) h in
-    rw tests.0 (ap (λ (o : Option (PrunedList × PrunedList)). option_map (smaller_over e l) o) (split-smaller u r tests.1))
-
-isnt : (b : Bool) → not b ≡ true → b ≡ false
-isnt true h = absurd cc
-isnt false h = refl
+    rw tests.0 (ap (λ (o : Option (PrunedList × PrunedList)). option_map (smaller_over e l) o)
+    (split-smaller u r tests.1))
 
 -- no user is smaller
 pub split-greater : (u : ℕ) (p : PrunedList) → is_greater u p ≡ true → split p u ≡ Some (absent, p)
@@ -39,8 +36,10 @@ unfolding is_greater split
 split-greater u absent h = refl
 split-greater u (hidden x) h = absurd cc
 split-greater u (node e l r) h =
-    let tests = and_parts (not (nat_lt e.user u)) (is_greater u l) h in
-    rw (isnt (nat_lt e.user u) tests.0) (ap (λ (o : Option (PrunedList × PrunedList)). option_map (greater_over e r) o) (split-greater u l tests.1))
+    let tests = and_parts (nat_le u e.user) (is_greater u l) h in
+    let high = leb-true u e.user tests.0 in
+    rw (le-ltb e.user u high) (ap (λ (o : Option (PrunedList × PrunedList)). option_map (greater_over e r) o)
+    (split-greater u l tests.1))
 
 -- nothing on the right
 pub join-absent : (p : PrunedList) → join p absent ≡ Some p
@@ -58,14 +57,20 @@ pub ruleset join_absent = (join-absent)
 -- the treap of this list, which has an entry
 pub record Makes (d : Digest) (p : PrunedList) (E : List Entry) : Type 0 where
   pub some : 0 < length (in_order p)
-  pub treap : IsTreap d p
+  pub treap : IsVersion d p
   pub entries : in_order p ≡ E
+
+version : (d : Digest) (p : PrunedList) (E : List Entry) → IsRising E → IsWhole p → PrunesList d p E
+    → IsVersion d p × (in_order p ≡ E)
+version d p E rising whole h =
+    let same = whole-in_order d p E rising whole h in
+    (record { whole = whole; rising = rw same rising; parts = rw same h }, same)
 
 makes : (d : Digest) (p : PrunedList) (E : List Entry) → 0 < length E → IsRising E → IsWhole p → PrunesList d p E
     → Makes d p E
 makes d p E some rising whole h =
-    let same = whole-in_order d p E rising whole h in
-    record { some = rw same some; treap = record { whole = whole; rising = rw same rising; parts = rw same h }; entries = same }
+    let kept = version d p E rising whole h in
+    record { some = rw kept.1 some; treap = kept.0; entries = kept.1 }
 
 is_whole : (o : Option PrunedList) (q : PrunedList) → IsSomeAnd o IsWhole → o ≡ Some q → IsWhole q
 is_whole o q h is = let it = subst (λ (x : Option PrunedList). IsSomeAnd x IsWhole) is h in it
@@ -77,7 +82,8 @@ one-makes d e = makes d (node e absent absent) (e ∷ []) (omega arith) (tt, tt)
 pub insert-makes : (d : Digest) (e : Entry) (p q : PrunedList) (E : List Entry) → IsRising E → IsWhole p
     → PrunesDict d p E → entry_of E e.user ≡ None → insert e p ≡ Some q → Makes d q (with_entry e E)
 insert-makes d e p q E rising whole h none is =
-    makes d q (with_entry e E) (listed-some (with_entry e E) e.user e (with_entry-own e E)) (rising-with_entry e E rising)
+    makes d q (with_entry e E) (listed-some (with_entry e E) e.user e (with_entry-own e E))
+    (rising-with_entry e E rising)
     (is_whole (insert e p) q (insert-whole e p whole) is) (insert-prunes d e p E q rising none h.parts is)
 
 pub remove-makes : (d : Digest) (user : ℕ) (p q : PrunedList) (E : List Entry) → IsRising E → IsWhole p
@@ -94,7 +100,8 @@ pub set_next-makes : (d : Digest) (user next : ℕ) (p q : PrunedList) (E : List
     → PrunesDict d p E → set_next user next p ≡ Some q → Makes d q (with_next user next E)
 set_next-makes d user next p q E rising whole h is =
     makes d q (with_next user next E) (next-some user next E h.some) (rising-with_next user next E rising)
-    (is_whole (set_next user next p) q (set_next-whole user next p whole) is) (next-prunes d user next p E q h.parts is)
+    (is_whole (set_next user next p) q (set_next-whole user next p whole) is)
+    (next-prunes d user next p E q h.parts is)
 
 -- ---- look-ups and digests
 
@@ -103,7 +110,8 @@ pub finds : (d : Digest) (p : PrunedList) (E : List Entry) (u : ℕ) (o : Option
 finds d p E u o rising whole h is =
     let it : found o ≡ found (entry_of E u) = sym is ∙ whole-finds d p E u rising whole h.parts in cc
 
-pub digest-is : (d : Digest) (p : PrunedList) (E : List Entry) (x : List ℕ) → PrunesDict d p E → part_digest d p ≡ Some x
+pub digest-is : (d : Digest) (p : PrunedList) (E : List Entry) (x : List ℕ) → PrunesDict d p E
+    → part_digest d p ≡ Some x
     → x ≡ dict d E
 digest-is d p E x h is = sym (ap (λ (o : Option (List ℕ)). unwrap_or o []) is) ∙ digest-dict d p E h
 
@@ -137,23 +145,17 @@ whole-hidden x h = h
 -- the top of a list and the treaps of its parts
 pub record Parted (d : Digest) (p : PrunedList) (E : List Entry) (e : Entry) : Type 0 where
   pub top : top_of E ≡ Some e
-  pub left : IsTreap d (left_of p)
+  pub left : IsVersion d (left_of p)
   pub smaller_users : in_order (left_of p) ≡ smaller e.user E
-  pub right : IsTreap d (right_of p)
+  pub right : IsVersion d (right_of p)
   pub greater_users : in_order (right_of p) ≡ greater e.user E
-
-treap : (d : Digest) (p : PrunedList) (E : List Entry) → IsRising E → IsWhole p → PrunesList d p E
-    → IsTreap d p × (in_order p ≡ E)
-treap d p E rising whole h =
-    let same = whole-in_order d p E rising whole h in
-    (record { whole = whole; rising = rw same rising; parts = rw same h }, same)
 
 node-parted : (d : Digest) (e : Entry) (l r : PrunedList) (E : List Entry) → IsRising E → IsWhole (node e l r)
     → PrunesList d (node e l r) E → Parted d (node e l r) E e
 unfolding IsWhole PrunesList
 node-parted d e l r E rising whole h =
-    let left = treap d l (smaller e.user E) (rising-smaller e.user E rising) whole.0 h.1 in
-    let right = treap d r (greater e.user E) (rising-greater e.user E rising) whole.1 h.2 in
+    let left = version d l (smaller e.user E) (rising-smaller e.user E rising) whole.0 h.1 in
+    let right = version d r (greater e.user E) (rising-greater e.user E rising) whole.1 h.2 in
     record { top = h.0; left = left.0; smaller_users = left.1; right = right.0; greater_users = right.1 }
 
 pub parted : (d : Digest) (p : PrunedList) (E : List Entry) (e : Entry) → IsRising E → IsWhole p → PrunesDict d p E
@@ -166,7 +168,7 @@ parted d (node f l r) E e rising whole h is =
 
 -- the parts of a treap are treaps, whatever the entry is
 pub any-parted : (d : Digest) (p : PrunedList) (E : List Entry) → IsRising E → IsWhole p → PrunesDict d p E
-    → IsTreap d (left_of p) × IsTreap d (right_of p)
+    → IsVersion d (left_of p) × IsVersion d (right_of p)
 any-parted d absent E rising whole h = absurd (empty-absent d E h)
 any-parted d (hidden x) E rising whole h = absurd (whole-hidden x whole)
 any-parted d (node e l r) E rising whole h =

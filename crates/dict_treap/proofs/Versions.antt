@@ -17,7 +17,8 @@ without-some user (e ∷ []) h more = absurd (omega arith)
 without-some user (e ∷ x ∷ es) h more =
     let less : e.user < x.user = h.0.0 in
     elim (eqb_tells e.user user) [
-      | inl same ↦ let other = ne_eqb x.user user (λ is. let is' = same.1 in omega arith) in rw (same.0, other) (omega arith)
+      | inl same ↦ let other = ne_eqb x.user user (λ is. let is' = same.1 in omega arith) in rw (same.0, other)
+          (omega arith)
       | inr other ↦ rw other.0 (omega arith)
     ]
 

@@ -1,5 +1,5 @@
 -- The treaps that versions of an access list keep, as pruned lists in which nothing is hidden.
-use Rattle.std.specs.Prelude.{◌≡◌, ℕ, suc, max, Bool, true, false, not, ◌&&◌, Option, Some, None, Box, box_value, nat_lt, refl}
+use Rattle.std.specs.Prelude.{◌≡◌, ℕ, suc, max, Bool, true, false, ◌&&◌, Option, Some, None, Box, box_value, nat_le, nat_lt, refl}
 use Rattle.std.proofs.Common.{Bor}
 use Rattle.std.specs.declared.alloc.Global.{Global}
 use Rattle.fr_digest.specs.Digest.{Digest}
@@ -28,7 +28,7 @@ right_of (hidden x) = absent
 right_of (node e l r) = r
 
 -- It is the treap of the entries that it shows.
-pub record IsTreap (d : Digest) (p : PrunedList) : Type 0 where
+pub record IsVersion (d : Digest) (p : PrunedList) : Type 0 where
   pub whole : IsWhole p
   pub rising : IsRising (in_order p)
   pub parts : PrunesList d p (in_order p)
@@ -43,7 +43,7 @@ is_smaller u (node e l r) = nat_lt e.user u && is_smaller u r
 unfoldable pub is_greater : ℕ → PrunedList → Bool
 is_greater u absent = true
 is_greater u (hidden x) = false
-is_greater u (node e l r) = not (nat_lt e.user u) && is_greater u l
+is_greater u (node e l r) = nat_le u e.user && is_greater u l
 
 pub levels-node : (e : Entry) (l r : PrunedList) → levels (node e l r) ≡ suc (max (levels l) (levels r))
 unfolding levels

@@ -99,7 +99,7 @@ fn are_greater<D: Digester>(at: Option<&Node<D>>, user: u32) -> bool
     let Some(node) = at else {
         return true;
     };
-    !(node.entry().user < user) && are_greater(node.left(), user)
+    user <= node.entry().user && are_greater(node.left(), user)
 }
 
 /// The parts of the smaller and of the greater users than one who isn't in the treap. Only nodes that lose a user
@@ -176,8 +176,7 @@ fn join<D: Digester>(
     left: Option<&Node<D>>,
     right: Option<&Node<D>>,
 ) -> Result<Part<D>, NoMemory>
-    ensures { IfOk result (λ p. join (part left.entry) (part right.entry)
-        ≡ Some (owned p)) }
+    ensures { IfOk result (λ p. join (part left.entry) (part right.entry) ≡ Some (owned p)) }
 {
     let Some(first) = left else {
         return copy(alloc, right);

@@ -1,7 +1,7 @@
 ghost use Rattle.std.specs.Prelude.{◌≡◌, ◌<◌, [], ◌∷◌, Some, None, IfOk, IsSome, length};
 ghost use Rattle.tree_model.specs.AccessList.{IsRising, dict, entry_of, greater, smaller, top_of, with_entry, with_next, without};
 ghost use Rattle.dict_treap.specs.Lists.{where_some};
-ghost use Rattle.dict_treap.specs.Treap.{IsTreap, owned, part};
+ghost use Rattle.dict_treap.specs.Treap.{IsVersion, owned, part};
 ghost use Rattle.pruned_list.specs.PrunedList.{PrunesDict, IsWhole, in_order};
 
 use crate::changes;
@@ -25,7 +25,7 @@ pub struct Dict<D: Digester> {
 }
 
 impl<D: Digester> Model for Dict<D> {
-    ghost use Rattle.dict_treap.specs.Treap.{IsTreap};
+    ghost use Rattle.dict_treap.specs.Treap.{IsVersion};
     ghost use Rattle.pruned_list.specs.PrunedList.{in_order};
     ghost use Rattle.std.specs.Arc.{arc_value};
     ghost use Rattle.std.specs.Prelude.{◌<◌, List, length};
@@ -35,7 +35,7 @@ impl<D: Digester> Model for Dict<D> {
 
     ghost view = { λ d. in_order (arc_value d.root) };
 
-    ghost invariant = { λ d. (0 < length (in_order (arc_value d.root))) × IsTreap D.digest_of (arc_value d.root) };
+    ghost invariant = { λ d. (0 < length (in_order (arc_value d.root))) × IsVersion D.digest_of (arc_value d.root) };
 }
 
 impl<D: Digester> Dict<D> {
@@ -124,7 +124,7 @@ impl<D: Digester> Dict<D> {
     /// The list of a treap.
     fn of(alloc: Global, root: Part<D>) -> Result<Dict<D>, NoMemory>
         requires some { 0 < length (in_order (owned root)) }
-        requires treap { IsTreap D.digest_of (owned root) }
+        requires treap { IsVersion D.digest_of (owned root) }
         ensures { IfOk result (λ d. d ≡ in_order (owned root)) }
     {
         let Some(root) = root else { unreachable!() };
@@ -136,7 +136,7 @@ impl<D: Digester> Dict<D> {
 
     /// The list of a copy of a part, where it has a node.
     fn part(&self, at: Option<&Node<D>>) -> Result<Option<Dict<D>>, NoMemory>
-        requires { IsTreap D.digest_of (part at) }
+        requires { IsVersion D.digest_of (part at) }
         ensures { IfOk result (λ d. d ≡ where_some (in_order (part at.entry))) }
     {
         let Some(node) = at else {
