@@ -19,7 +19,7 @@ use Rattle.tree_extract.specs.Difference.{Tree, unshown, node, clash_at, differe
 
 -- ---- one node
 
-test-true : (a b : List ℕ) → a ≡ b → bytes_eq a b ≡ true
+pub test-true : (a b : List ℕ) → a ≡ b → bytes_eq a b ≡ true
 test-true a b same = (bytes_eq-Decides a b).1 same
 
 pub clash_at-equal : (d : Digest) (a b : List ℕ) → bytes_eq a b ≡ true → clash_at d a b ≡ None
@@ -61,11 +61,11 @@ pub option_or-none : {T : Type 0} (x : Option T) → option_or x None ≡ x
 option_or-none None = refl
 option_or-none (Some x) = refl
 
-both_none : {T : Type 0} (x y : Option T) → option_or x y ≡ None → (x ≡ None) × (y ≡ None)
+pub both_none : {T : Type 0} (x y : Option T) → option_or x y ≡ None → (x ≡ None) × (y ≡ None)
 both_none None y nothing = (refl, nothing)
 both_none (Some x) y nothing = cc
 
-one_some : {T : Type 0} (x y : Option T) (v : T) → option_or x y ≡ Some v → (x ≡ Some v) ⊎ (y ≡ Some v)
+pub one_some : {T : Type 0} (x y : Option T) (v : T) → option_or x y ≡ Some v → (x ≡ Some v) ⊎ (y ≡ Some v)
 one_some None y v is = inr is
 one_some (Some x) y v is = inl is
 

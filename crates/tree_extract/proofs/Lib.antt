@@ -1,2 +1,3 @@
+pub mod AccessListDifferences
 pub mod Differences
 pub mod NodeStrings

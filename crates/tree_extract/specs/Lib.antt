@@ -1,2 +1,3 @@
+pub mod AccessListDifference
 pub mod Difference
 pub mod NodeString

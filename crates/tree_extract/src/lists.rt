@@ -64,7 +64,10 @@ fn is_same(a: &[Bytes], b: &[Bytes]) -> bool
 }
 
 /// The clash of two strings that differ and have one digest.
-fn clash_of<D: Digester>(alloc: Global, found: &Found<'_>) -> Result<Option<Clash<D>>, NoMemory>
+pub(crate) fn clash_of<D: Digester>(
+    alloc: Global,
+    found: &Found<'_>,
+) -> Result<Option<Clash<D>>, NoMemory>
     requires { Collides D.digest_of (strings_of found.now) }
     ensures { IfOk result (λ clash. clash ≡ Some (strings_of found.now)) }
 {
@@ -84,10 +87,10 @@ fn first_difference<'a, D: Digester>(a: &'a [Bytes], b: &'a [Bytes]) -> Option<F
 
 /// Two nodes in the same place: their digests, and the first difference at them or below.
 #[derive(Clone, Copy)]
-struct Compared<'a> {
-    a: Dig,
-    b: Dig,
-    found: Option<Found<'a>>,
+pub(crate) struct Compared<'a> {
+    pub(crate) a: Dig,
+    pub(crate) b: Dig,
+    pub(crate) found: Option<Found<'a>>,
 }
 
 /// The nodes of height `level` over two lists of one length.
@@ -130,7 +133,7 @@ fn compare<'a, D: Digester>(a: &'a [Bytes], b: &'a [Bytes], level: u32) -> Compa
 
 /// Two nodes with these strings, over what was found below them: a difference of their own comes first.
 #[tactic(auto, unfolding(crate::specs::Difference::clash_at))]
-fn compare_nodes<'a, D: Digester>(
+pub(crate) fn compare_nodes<'a, D: Digester>(
     a: NodeString<'a>,
     b: NodeString<'a>,
     below: Option<Found<'a>>,
