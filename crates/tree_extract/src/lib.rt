@@ -2,6 +2,8 @@
 //! doesn't prune a set of its digest, two strings of equal digest are found in the trees and handed out.
 #![tactic(auto)]
 
+#[cfg(test)]
+mod dict_tests;
 mod dicts;
 mod lists;
 mod nodes;
