@@ -1,3 +1,4 @@
 pub mod AccessListDifferences
 pub mod Differences
 pub mod NodeStrings
+pub mod PrunedDifferences

@@ -1,3 +1,4 @@
 pub mod AccessListDifference
 pub mod Difference
 pub mod NodeString
+pub mod PrunedDifference

@@ -5,10 +5,12 @@
 #[cfg(test)]
 mod dict_tests;
 mod dicts;
+mod history;
 mod lists;
 mod nodes;
 #[cfg(test)]
 mod tests;
 
 pub use dicts::dict_clash;
+pub use history::hist_clash;
 pub use lists::{list_clash, slice_clash};

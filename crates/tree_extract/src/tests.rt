@@ -1,6 +1,7 @@
-use crate::list_clash;
+use crate::{hist_clash, list_clash};
 use fr_bytes::{Bytes, NoMemory, Texts};
 use fr_digest::{Clash, Digester, Sha, Short};
+use hist_proof::{DigestedTree, Pruned, read_pruned};
 use std::alloc::{AllocError, Global};
 use std::process::Abort;
 use std::test::Fail;
@@ -141,6 +142,103 @@ fn the_first_clash_in_pre_order_is_shown(rt: HostRuntime) -> Result<(), Fail> {
     for (a, b, want_a, want_b) in &CLASHES {
         let clash = shown(&rt, rt.alloc(), a, b)?;
         assert!(rt; has_strings(rt.alloc(), &clash, want_a, want_b)?);
+    }
+    Ok(())
+}
+
+// The pruned tree of the texts "a" to "e" that shows the fourth and the fifth, spelled by an independent program.
+const FIVE: &str = "020200b137985ff484fb600db93107c77b0365c80d78f5b429ded0fd97361d077999eb\
+    0200597fcb31282d34654c200d3418fca5705c648ebf326ec73d8ddef11841f876d80100000001640303010000000165";
+
+fn tree(alloc: Global, digits: &str) -> Result<Pruned, Fail> {
+    let bytes = hex::decode(alloc, digits)?;
+    match read_pruned(alloc, &bytes) {
+        Ok(tree) => Ok(tree),
+        Err(refused) => Err(refused.into()),
+    }
+}
+
+fn clash_with<D: Digester>(
+    rt: &impl Abort,
+    alloc: Global,
+    digits: &str,
+    texts: &Texts,
+) -> Result<Option<Clash<D>>, Fail> {
+    let size = texts.len() as u64;
+    assert!(rt; size > 0);
+    let kept = DigestedTree::<D>::new(alloc, tree(alloc, digits)?, size)?.ok_or(
+        "a tree of this size",
+    )?;
+    assert!(rt; kept.size() == size && kept.digest() == root_at::<D>(texts, size));
+    Ok(hist_clash::<D>(alloc, kept.tree(), size, texts)?)
+}
+
+#[test]
+fn what_prunes_has_no_clash(rt: HostRuntime) -> Result<(), Fail> {
+    let all = texts(rt.alloc(), &[b"a".as_slice(), b"b", b"c", b"d", b"e"])?;
+    let clash = clash_with::<Sha>(&rt, rt.alloc(), FIVE, &all)?;
+    assert!(rt; clash.is_none());
+    Ok(())
+}
+
+// Pruned trees that have, under the short digest, the root of the texts "t0", "t1" and so on, of which there are so many,
+// and the pair that an independent program finds, or nothing.
+const PRUNED_CLASHES: [(&str, u32, &str, &str); 4] = [
+    (
+        "020100000005322033343401000000027431",
+        2,
+        "003220333434",
+        "007430",
+    ),
+    (
+        "020201000000027430010000000631332031313402010000000631332035303001000000027433",
+        4,
+        "00313320313134",
+        "007431",
+    ),
+    (
+        "0201000000027430006b00000000000000000000000000000000000000000000000000000000000000",
+        2,
+        "",
+        "",
+    ),
+    (
+        "009300000000000000000000000000000000000000000000000000000000000000",
+        1,
+        "",
+        "",
+    ),
+];
+
+fn numbered(alloc: Global, count: u32) -> Result<Texts, AllocError> {
+    let mut texts = Vec::new(alloc);
+    for i in 0..count {
+        texts.push(Bytes::of(format!(in alloc; "t{i}")?.into_bytes()))?;
+    }
+    Ok(Texts::of(texts))
+}
+
+// Both strings as hexadecimal text, and nothing where there are none.
+fn pair<D: Digester>(
+    alloc: Global,
+    clash: Option<Clash<D>>,
+) -> Result<(String, String), AllocError> {
+    match clash {
+        None => Ok((String::new(alloc), String::new(alloc))),
+        Some(clash) => Ok((
+            hex::encode(alloc, clash.a())?,
+            hex::encode(alloc, clash.b())?,
+        )),
+    }
+}
+
+#[test]
+fn the_first_clash_of_a_pruned_tree_is_found(rt: HostRuntime) -> Result<(), Fail> {
+    for (digits, count, a, b) in PRUNED_CLASHES {
+        let all = numbered(rt.alloc(), count)?;
+        let clash = clash_with::<Short>(&rt, rt.alloc(), digits, &all)?;
+        let (first, second) = pair(rt.alloc(), clash)?;
+        assert!(rt; first.as_str() == a && second.as_str() == b);
     }
     Ok(())
 }
