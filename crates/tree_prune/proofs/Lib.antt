@@ -3,3 +3,5 @@ pub mod LeastLaws
 pub mod Marks
 pub mod Steps
 pub mod Wants
+pub mod LeastLists
+pub mod Walks

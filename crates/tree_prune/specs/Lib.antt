@@ -1,2 +1,3 @@
 pub mod LeastHistory
 pub mod Wanted
+pub mod LeastList

@@ -6,3 +6,9 @@ pub mod history;
 mod tests;
 
 pub use history::{prune, prune_at};
+//! Prunings that are made: the least part of an access list that shows what a reader is to see.
+#![tactic(auto)]
+
+pub mod list;
+
+pub use list::prune_for;
