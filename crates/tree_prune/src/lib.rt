@@ -9,6 +9,8 @@ pub use history::{prune, prune_at};
 //! Prunings that are made: the least part of an access list that shows what a reader is to see.
 #![tactic(auto)]
 
+mod fitting;
 pub mod list;
 
+pub use fitting::fits_change;
 pub use list::prune_for;
