@@ -31,7 +31,8 @@ module _ {X : Type 0} where
       ∙ take-append-drop n (take (n + 32) xs)
 
   -- the first chunks have the first items
-  pub joined-take : (pieces : List (List X)) (n q : ℕ) → IsChunked pieces n → q ≤ length pieces → joined (take q pieces) ≡ take (32 * q) (joined pieces)
+  pub joined-take : (pieces : List (List X)) (n q : ℕ) → IsChunked pieces n → q ≤ length pieces
+      → joined (take q pieces) ≡ take (32 * q) (joined pieces)
   joined-take pieces n zero h within = refl
   joined-take pieces n (suc q) h within =
       let next : suc q ≡ q + 1 = omega arith in
@@ -46,7 +47,8 @@ module _ {X : Type 0} where
       ∙ ap (λ k. take k (joined pieces)) sum
       )
 
-  within_front : (xs : List X) (c q : ℕ) → c < q → take 32 (drop (32 * c) (take (32 * q) xs)) ≡ take 32 (drop (32 * c) xs)
+  within_front : (xs : List X) (c q : ℕ) → c < q
+      → take 32 (drop (32 * c) (take (32 * q) xs)) ≡ take 32 (drop (32 * c) xs)
   within_front xs c q low =
       let sum : 32 * q ≡ 32 * c + (32 * q - 32 * c) = omega arith in
       ap (λ k. take 32 (drop (32 * c) (take k xs))) sum
@@ -54,7 +56,8 @@ module _ {X : Type 0} where
       ∙ take-take 32 (32 * q - 32 * c) (drop (32 * c) xs) (omega arith)
 
   -- the full chunks, of which there are n / 32
-  pub chunked-full : (pieces : List (List X)) (n q : ℕ) → IsChunked pieces n → q ≡ n / 32 → IsChunked (take q pieces) (32 * q)
+  pub chunked-full : (pieces : List (List X)) (n q : ℕ) → IsChunked pieces n → q ≡ n / 32
+      → IsChunked (take q pieces) (32 * q)
   chunked-full pieces n q h full =
       let enough = h.enough in
       let size = h.size in
@@ -65,17 +68,20 @@ module _ {X : Type 0} where
         size = ap (λ (xs : List X). length xs) front ∙ length-take-le (32 * q) (joined pieces) (omega arith);
         each = λ c low.
             let same = get_or-take q pieces c [] (omega arith) in
-            let part : take 32 (drop (32 * c) (take (32 * q) (joined pieces))) ≡ take 32 (drop (32 * c) (joined pieces)) = within_front (joined pieces) c q (omega arith) in
+            let part : take 32 (drop (32 * c) (take (32 * q) (joined pieces))) ≡ take 32 (drop (32 * c) (joined
+            pieces)) = within_front (joined pieces) c q (omega arith) in
             rw (same, front, part) (h.each c (omega arith));
         enough = omega arith;
         no_more = omega arith;
       }
 
-  pub full-items : (pieces : List (List X)) (n q : ℕ) → IsChunked pieces n → q ≡ n / 32 → joined (take q pieces) ≡ take (32 * q) (joined pieces)
+  pub full-items : (pieces : List (List X)) (n q : ℕ) → IsChunked pieces n → q ≡ n / 32
+      → joined (take q pieces) ≡ take (32 * q) (joined pieces)
   full-items pieces n q h full = let enough = h.enough in joined-take pieces n q h (omega arith)
 
   -- the items of a list and one more
-  pub joined-more : (pieces : List (List X)) (items last : List X) (x : X) (q : ℕ) → joined pieces ≡ take (32 * q) items
+  pub joined-more : (pieces : List (List X)) (items last : List X) (x : X) (q : ℕ)
+      → joined pieces ≡ take (32 * q) items
       → last ≡ drop (32 * q) items ++ x ∷ [] → joined (pieces ++ last ∷ []) ≡ items ++ x ∷ []
   joined-more pieces items last x q front back =
       flat_map-append (λ (xs : List X). xs) pieces (last ∷ [])
@@ -84,8 +90,10 @@ module _ {X : Type 0} where
       ∙ sym (append_assoc (take (32 * q) items) (drop (32 * q) items) (x ∷ []))
       ∙ ap (λ (xs : List X). xs ++ x ∷ []) (take-append-drop (32 * q) items)
 
-  piece : (pieces : List (List X)) (items last : List X) (x : X) (c q : ℕ) → IsChunked pieces (32 * q) → joined pieces ≡ take (32 * q) items
-      → last ≡ drop (32 * q) items ++ x ∷ [] → length pieces ≡ q → c ≤ q → 32 * q ≤ length items → length items < 32 * q + 32
+  piece : (pieces : List (List X)) (items last : List X) (x : X) (c q : ℕ) → IsChunked pieces (32 * q)
+      → joined pieces ≡ take (32 * q) items
+      → last ≡ drop (32 * q) items ++ x ∷ [] → length pieces ≡ q → c ≤ q → 32 * q ≤ length items
+      → length items < 32 * q + 32
       → get_or (pieces ++ last ∷ []) c [] ≡ take 32 (drop (32 * c) (items ++ x ∷ []))
   piece pieces items last x c q h front back count low within short =
       let begin = drop-append-le (32 * c) items (x ∷ []) (omega arith) in
@@ -95,19 +103,22 @@ module _ {X : Type 0} where
             let same = within_front items c q below in
             let rest = length-drop (32 * c) items in
             let old = take-append-le 32 (drop (32 * c) items) (x ∷ []) (omega arith) in
-            get_or_append_left pieces (last ∷ []) [] c (omega arith) ∙ there ∙ ap (λ (xs : List X). take 32 (drop (32 * c) xs)) front ∙ same ∙ sym old
+            get_or_append_left pieces (last ∷ []) [] c (omega arith) ∙ there
+            ∙ ap (λ (xs : List X). take 32 (drop (32 * c) xs)) front ∙ same ∙ sym old
             ∙ ap (λ (xs : List X). take 32 xs) (sym begin)
         | inr here ↦
             let same : c ≡ q = omega arith in
             let rest = length-drop (32 * c) items in
             let len = length_push (drop (32 * c) items) x in
             let whole = take_all 32 (drop (32 * c) items ++ x ∷ []) (omega arith) in
-            get_or_push pieces last [] c (omega arith) ∙ back ∙ ap (λ k. drop (32 * k) items ++ x ∷ []) (sym same) ∙ sym whole
+            get_or_push pieces last [] c (omega arith) ∙ back
+            ∙ ap (λ k. drop (32 * k) items ++ x ∷ []) (sym same) ∙ sym whole
             ∙ ap (λ (xs : List X). take 32 xs) (sym begin)
       ]
 
   -- full chunks, and behind them what is left of a list with one item more
-  pub chunked-more : (pieces : List (List X)) (items last : List X) (x : X) (n q : ℕ) → IsChunked pieces (32 * q) → joined pieces ≡ take (32 * q) items
+  pub chunked-more : (pieces : List (List X)) (items last : List X) (x : X) (n q : ℕ) → IsChunked pieces (32 * q)
+      → joined pieces ≡ take (32 * q) items
       → last ≡ drop (32 * q) items ++ x ∷ [] → length items ≡ n → q ≡ n / 32 → IsChunked (pieces ++ last ∷ []) (n + 1)
   chunked-more pieces items last x n q h front back count full =
       let all = joined-more pieces items last x q front back in
@@ -117,13 +128,15 @@ module _ {X : Type 0} where
       let longer = length_push items x in
       record {
         size = ap (λ (xs : List X). length xs) all ∙ longer ∙ ap (λ k. k + 1) count;
-        each = λ c within. rw all (piece pieces items last x c q h front back (omega arith) (omega arith) (omega arith) (omega arith));
+        each = λ c within. rw all (piece pieces items last x c q h front back (omega arith) (omega arith) (omega
+            arith) (omega arith));
         enough = omega arith;
         no_more = omega arith;
       }
 
   -- an item, by its chunk and its place there
-  pub chunk-item : (pieces : List (List X)) (n k : ℕ) (x : X) → IsChunked pieces n → k < n → slice_get (get_or pieces (k / 32) []) (k % 32) ≡ Some x
+  pub chunk-item : (pieces : List (List X)) (n k : ℕ) (x : X) → IsChunked pieces n → k < n
+      → slice_get (get_or pieces (k / 32) []) (k % 32) ≡ Some x
       → slice_get (joined pieces) k ≡ Some x
   chunk-item pieces n k x h within at =
       let size = h.size in
@@ -132,11 +145,13 @@ module _ {X : Type 0} where
       let read = get_or_from_slice_get (get_or pieces (k / 32) []) (k % 32) x x at in
       let low = get_or-take 32 (drop (32 * (k / 32)) (joined pieces)) (k % 32) x (omega arith) in
       let deep = get_or-drop (32 * (k / 32)) (joined pieces) (k % 32) x in
-      let same : get_or (joined pieces) k x ≡ x = ap (λ i. get_or (joined pieces) i x) (sym place) ∙ sym deep ∙ sym low ∙ ap (λ (xs : List X). get_or xs (k % 32) x) (sym there) ∙ read in
+      let same : get_or (joined pieces) k x ≡ x = ap (λ i. get_or (joined pieces) i x) (sym place) ∙ sym deep
+      ∙ sym low ∙ ap (λ (xs : List X). get_or xs (k % 32) x) (sym there) ∙ read in
       slice_get-get_or (joined pieces) k x (omega arith) ∙ ap (λ y. Some y) same
 
   -- how many items the chunk of a position has, at least
-  pub chunk-length : (pieces : List (List X)) (n k w : ℕ) → IsChunked pieces n → 0 < w → k + w ≤ n → k % 32 + w ≤ 32 → k % 32 + w ≤ length (get_or pieces (k / 32) [])
+  pub chunk-length : (pieces : List (List X)) (n k w : ℕ) → IsChunked pieces n → 0 < w → k + w ≤ n
+      → k % 32 + w ≤ 32 → k % 32 + w ≤ length (get_or pieces (k / 32) [])
   chunk-length pieces n k w h some within fits =
       let size = h.size in
       let there = h.each (k / 32) (chunk-within pieces n k h (omega arith)) in
@@ -151,13 +166,16 @@ module _ {X : Type 0} where
       let there = h.each (k / 32) (chunk-within pieces n k h (omega arith)) in
       let place : 32 * (k / 32) + k % 32 ≡ k = omega arith in
       let sum : 32 ≡ k % 32 + (32 - k % 32) = omega arith in
-      ap (λ (xs : List X). take w (drop (k % 32) xs)) (there ∙ ap (λ m. take m (drop (32 * (k / 32)) (joined pieces))) sum)
+      ap (λ (xs : List X). take w (drop (k % 32) xs)) (there
+      ∙ ap (λ m. take m (drop (32 * (k / 32)) (joined pieces))) sum)
       ∙ ap (λ (xs : List X). take w xs) (drop-take (k % 32) (32 - k % 32) (drop (32 * (k / 32)) (joined pieces)))
       ∙ take-take w (32 - k % 32) (drop (k % 32) (drop (32 * (k / 32)) (joined pieces))) (omega arith)
-      ∙ ap (λ (xs : List X). take w xs) (drop-drop (k % 32) (32 * (k / 32)) (joined pieces) ∙ ap (λ m. drop m (joined pieces)) place)
+      ∙ ap (λ (xs : List X). take w xs) (drop-drop (k % 32) (32 * (k / 32)) (joined pieces)
+      ∙ ap (λ m. drop m (joined pieces)) place)
 
   -- the texts that stand in a chunk, from a position on
-  pub chunk-texts : (f : X → List ℕ) (pieces : List (List X)) (n k w : ℕ) → IsChunked pieces n → 0 < w → k + w ≤ n → k % 32 + w ≤ 32
+  pub chunk-texts : (f : X → List ℕ) (pieces : List (List X)) (n k w : ℕ) → IsChunked pieces n → 0 < w
+      → k + w ≤ n → k % 32 + w ≤ 32
       → take w (drop (k % 32) (map f (get_or pieces (k / 32) []))) ≡ take w (drop k (map f (joined pieces)))
   chunk-texts f pieces n k w h some within fits =
       ap (λ (ts : List (List ℕ)). take w ts) (drop-map f (k % 32) (get_or pieces (k / 32) []))
@@ -173,7 +191,8 @@ module _ {X : Type 0} where
 -- ---- chunks behind owners
 
 module _ {A X : Type 0} (value : A → List X) where
-  pub chunk-read : (xs : List A) (n k : ℕ) (a : A) (c : List X) → IsChunked (map value xs) n → k < n → a ≡ get_or xs (k / 32) a → c ≡ value a
+  pub chunk-read : (xs : List A) (n k : ℕ) (a : A) (c : List X) → IsChunked (map value xs) n → k < n
+      → a ≡ get_or xs (k / 32) a → c ≡ value a
       → c ≡ get_or (map value xs) (k / 32) []
   chunk-read xs n k a c h within at same =
       let there = chunk-within (map value xs) n k h within in
@@ -185,7 +204,8 @@ module _ {A X : Type 0} (value : A → List X) where
       let there = chunk-within (map value xs) n k h within in
       let count = length-map xs value in omega arith
 
-  pub item-fits : (xs : List A) (items : List X) (n k : ℕ) (a : A) (c : List X) → IsChunked (map value xs) n → joined (map value xs) ≡ items → k < length items
+  pub item-fits : (xs : List A) (items : List X) (n k : ℕ) (a : A) (c : List X) → IsChunked (map value xs) n
+      → joined (map value xs) ≡ items → k < length items
       → a ≡ get_or xs (k / 32) a → c ≡ value a → k % 32 < length c
   item-fits xs items n k a c h view within at same =
       let count : length items ≡ n = ap (λ ys. length ys) (sym view) ∙ h.size in
@@ -193,21 +213,24 @@ module _ {A X : Type 0} (value : A → List X) where
       let fits = chunk-length (map value xs) n k 1 h (omega arith) (omega arith) (omega arith) in
       rw here (omega arith)
 
-  pub item-read : (xs : List A) (items : List X) (n k : ℕ) (a : A) (c : List X) (x : X) → IsChunked (map value xs) n → joined (map value xs) ≡ items → k < length items
+  pub item-read : (xs : List A) (items : List X) (n k : ℕ) (a : A) (c : List X) (x : X)
+      → IsChunked (map value xs) n → joined (map value xs) ≡ items → k < length items
       → a ≡ get_or xs (k / 32) a → c ≡ value a → slice_get c (k % 32) ≡ Some x → slice_get items k ≡ Some x
   item-read xs items n k a c x h view within at same found =
       let count : length items ≡ n = ap (λ ys. length ys) (sym view) ∙ h.size in
       let here = chunk-read xs n k a c h (omega arith) at same in
       rw (← view) (chunk-item (map value xs) n k x h (omega arith) (rw here at found))
 
-  pub part-fits : (xs : List A) (items : List X) (n k w : ℕ) (a : A) (c : List X) → IsChunked (map value xs) n → joined (map value xs) ≡ items → 0 < w
+  pub part-fits : (xs : List A) (items : List X) (n k w : ℕ) (a : A) (c : List X) → IsChunked (map value xs) n
+      → joined (map value xs) ≡ items → 0 < w
       → k + w ≤ length items → k % 32 + w ≤ 32 → a ≡ get_or xs (k / 32) a → c ≡ value a → k % 32 + w ≤ length c
   part-fits xs items n k w a c h view some within fits at same =
       let count : length items ≡ n = ap (λ ys. length ys) (sym view) ∙ h.size in
       let here = chunk-read xs n k a c h (omega arith) at same in
       rw here (chunk-length (map value xs) n k w h some (omega arith) fits)
 
-  pub part-read : (f : X → List ℕ) (xs : List A) (items : List X) (n k w : ℕ) (a : A) (c : List X) → IsChunked (map value xs) n → joined (map value xs) ≡ items → 0 < w
+  pub part-read : (f : X → List ℕ) (xs : List A) (items : List X) (n k w : ℕ) (a : A) (c : List X)
+      → IsChunked (map value xs) n → joined (map value xs) ≡ items → 0 < w
       → k + w ≤ length items → k % 32 + w ≤ 32 → a ≡ get_or xs (k / 32) a → c ≡ value a
       → take w (drop (k % 32) (map f c)) ≡ take w (drop k (map f items))
   part-read f xs items n k w a c h view some within fits at same =
@@ -215,20 +238,23 @@ module _ {A X : Type 0} (value : A → List X) where
       let here = chunk-read xs n k a c h (omega arith) at same in
       rw (here, ← view) (chunk-texts f (map value xs) n k w h some (omega arith) fits)
 
-  pub full-pieces : (xs ws : List A) (items : List X) (n : ℕ) → ws ≡ xs → joined (map value xs) ≡ items → IsChunked (map value xs) n
+  pub full-pieces : (xs ws : List A) (items : List X) (n : ℕ) → ws ≡ xs → joined (map value xs) ≡ items
+      → IsChunked (map value xs) n
       → IsChunked (map value (take (n / 32) ws)) (32 * (length items / 32))
   full-pieces xs ws items n same view h =
       let count : length items ≡ n = ap (λ ys. length ys) (sym view) ∙ h.size in
       rw (same, count, ← take-map value (n / 32) xs) (chunked-full (map value xs) n (n / 32) h refl)
 
-  pub full-joined : (xs ws : List A) (items : List X) (n : ℕ) → ws ≡ xs → joined (map value xs) ≡ items → IsChunked (map value xs) n
+  pub full-joined : (xs ws : List A) (items : List X) (n : ℕ) → ws ≡ xs → joined (map value xs) ≡ items
+      → IsChunked (map value xs) n
       → joined (map value (take (n / 32) ws)) ≡ take (32 * (length items / 32)) items
   full-joined xs ws items n same view h =
       let count : length items ≡ n = ap (λ ys. length ys) (sym view) ∙ h.size in
       rw (same, count, ← take-map value (n / 32) xs, ← view) (full-items (map value xs) n (n / 32) h refl)
 
   -- the chunk of the items behind the full ones, where there are such
-  pub last-items : (xs ws : List A) (items : List X) (n : ℕ) (a : A) (c : List X) → ws ≡ xs → IsChunked (map value xs) n → joined (map value xs) ≡ items
+  pub last-items : (xs ws : List A) (items : List X) (n : ℕ) (a : A) (c : List X) → ws ≡ xs
+      → IsChunked (map value xs) n → joined (map value xs) ≡ items
       → n / 32 < length ws → a ≡ get_or ws (n / 32) a → c ≡ value a → c ≡ drop (32 * (length items / 32)) items
   last-items xs ws items n a c behind h view within is same =
       let count : length items ≡ n = ap (λ ys. length ys) (sym view) ∙ h.size in
@@ -242,15 +268,20 @@ module _ {A X : Type 0} (value : A → List X) where
       ∙ take_all 32 (drop (32 * (length items / 32)) items) (omega arith)
 
   -- the full chunks, and behind them the last one with an item more
-  pub hist-more : (fs ys zs : List A) (a : A) (items last : List X) (x : X) (m : ℕ) → map value ys ≡ map value fs → zs ≡ ys ++ a ∷ [] → value a ≡ last
+  pub hist-more : (fs ys zs : List A) (a : A) (items last : List X) (x : X) (m : ℕ) → map value ys ≡ map value fs
+      → zs ≡ ys ++ a ∷ [] → value a ≡ last
       → last ≡ drop (32 * (length items / 32)) items ++ x ∷ [] → IsChunked (map value fs) (32 * (length items / 32))
-      → joined (map value fs) ≡ take (32 * (length items / 32)) items → m ≡ length items + 1 → IsChunked (map value zs) m
+      → joined (map value fs) ≡ take (32 * (length items / 32)) items → m ≡ length items + 1
+      → IsChunked (map value zs) m
   hist-more fs ys zs a items last x m shared pushed is_last back h front count =
       rw (values-more value fs ys zs a shared pushed, is_last, count)
       (chunked-more (map value fs) items last x (length items) (length items / 32) h front back refl refl)
 
-  pub hist-items : (fs ys zs : List A) (a : A) (items last : List X) (x : X) → map value ys ≡ map value fs → zs ≡ ys ++ a ∷ [] → value a ≡ last
-      → last ≡ drop (32 * (length items / 32)) items ++ x ∷ [] → joined (map value fs) ≡ take (32 * (length items / 32)) items
+  pub hist-items : (fs ys zs : List A) (a : A) (items last : List X) (x : X) → map value ys ≡ map value fs
+      → zs ≡ ys ++ a ∷ [] → value a ≡ last
+      → last ≡ drop (32 * (length items / 32)) items ++ x ∷ []
+      → joined (map value fs) ≡ take (32 * (length items / 32)) items
       → joined (map value zs) ≡ items ++ x ∷ []
   hist-items fs ys zs a items last x shared pushed is_last back front =
-      rw (values-more value fs ys zs a shared pushed, is_last) (joined-more (map value fs) items last x (length items / 32) front back)
+      rw (values-more value fs ys zs a shared pushed, is_last) (joined-more (map value fs) items last x (length
+      items / 32) front back)

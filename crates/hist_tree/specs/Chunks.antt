@@ -11,7 +11,8 @@ use Rattle.hist_tree.specs.declared.limits.TheConstants.{CHUNK_ITEMS}
 pub record Keeps (d : Digest) (texts : List Text) (tops : List (List Text)) : Type 0 where
   pub few : length texts ≤ CHUNK_ITEMS
   pub whole : (level start : ℕ) → start % 2 ^ level ≡ 0 → start + 2 ^ level ≤ length texts
-      → slice_get (slice_index_or tops (start + 2 ^ level - 1) []) level ≡ Some (part d level (take (2 ^ level) (drop start texts)))
+      → slice_get (slice_index_or tops (start + 2 ^ level - 1) []) level ≡ Some (part d level (take (2 ^ level)
+      (drop start texts)))
 
 -- A list of digests has, at their heights, those of the whole subtrees that end with the last of the texts.
 pub record Ends (d : Digest) (texts : List Text) (tops : List Text) : Type 0 where

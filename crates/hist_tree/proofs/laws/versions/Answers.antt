@@ -12,5 +12,6 @@ returns g c = record {
   older = λ items more v within.
       let count = length-map items g.T.HasText.text_of in
       ap (λ ts. root g.D.Digester.digest_of ts v) (map-append g.T.HasText.text_of items more)
-      ∙ root-append g.D.Digester.digest_of (map g.T.HasText.text_of items) (map g.T.HasText.text_of more) v (omega arith);
+      ∙ root-append g.D.Digester.digest_of (map g.T.HasText.text_of items) (map g.T.HasText.text_of more) v (omega
+      arith);
 }

@@ -7,4 +7,5 @@ pub returns : goal.returns
 returns g c =
     let count = length-map c.args.self.now g.T.HasText.text_of in
     let within = c.requires.within in
-    (rw c.depth_of.ensures.value at c.node.ensures) ∙ node-top g.D.Digester.digest_of (map g.T.HasText.text_of c.args.self.now) c.args.v (omega arith)
+    (rw c.depth_of.ensures.value at c.node.ensures)
+    ∙ node-top g.D.Digester.digest_of (map g.T.HasText.text_of c.args.self.now) c.args.v (omega arith)

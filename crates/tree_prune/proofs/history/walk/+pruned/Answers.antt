@@ -21,7 +21,9 @@ returns-then-not-enters g t c =
     let version = c.requires.version in
     let ends = c.requires.ends in
     let out = sym c.enters.ensures ∙ c.if-not-enters.true in
-    tree_view-hidden c.part.result ∙ ap hidden c.part.ensures ∙ sym (step-out (part d) (is_wanted w.from w.positions.now) w.versions.now T c.args.size c.args.level c.args.start c.args.end (omega arith) ends out)
+    tree_view-hidden c.part.result ∙ ap hidden c.part.ensures
+    ∙ sym (step-out (part d) (is_wanted w.from w.positions.now) w.versions.now T c.args.size c.args.level
+    c.args.start c.args.end (omega arith) ends out)
 
 pub returns-then-level-eq0 : goal.returns-then-level-eq0
 returns-then-level-eq0 g t c =
@@ -32,8 +34,10 @@ returns-then-level-eq0 g t c =
     let version = c.requires.version in
     let ends = c.requires.ends in
     let into = sym c.enters.ensures ∙ c.if-not-enters.false in
-    let text = c.text.ensures ∙ sym (item-text g.T.HasText.text_of c.args.h.now c.args.start c.item.result.now c.item.ensures) in
-    let all = step-leaf (part d) (is_wanted w.from w.positions.now) w.versions.now T c.args.size c.args.level c.args.start c.args.end (omega arith) c.requires.within c.if-level-eq0.true into in
+    let text = c.text.ensures ∙ sym (item-text g.T.HasText.text_of c.args.h.now c.args.start c.item.result.now
+    c.item.ensures) in
+    let all = step-leaf (part d) (is_wanted w.from w.positions.now) w.versions.now T c.args.size c.args.level
+    c.args.start c.args.end (omega arith) c.requires.within c.if-level-eq0.true into in
     IfOk-weaker c.leaf.result _ _ (λ p is. is ∙ ap leaf text ∙ sym all) c.leaf.ensures
 
 pub left_leaves-half-requires-clause-levels : goal.left_leaves-half-requires-clause-levels
@@ -49,7 +53,8 @@ pruned-requires g t c κs within =
     let half = c.left_leaves-half.ensures in
     let few = c.if-end-start.true in
     let left = aligned-left c.args.level c.args.start above c.requires.aligned in
-    let end : c.args.end ≡ c.args.start + min (2 ^ (c.args.level - 1)) (c.args.size - c.args.start) = omega arith in search (rules, arith)
+    let end : c.args.end ≡ c.args.start + min (2 ^ (c.args.level - 1)) (c.args.size - c.args.start) = omega arith
+    in search (rules, arith)
 
 pub returns-then-end-start : goal.returns-then-end-start
 returns-then-end-start g t c =
@@ -65,7 +70,8 @@ returns-then-end-start g t c =
     let half = c.left_leaves-half.ensures in
     let few = c.if-end-start.true in
     let into = sym c.enters.ensures ∙ c.if-not-enters.false in
-    let all = step-single (part d) (is_wanted w.from w.positions.now) w.versions.now T c.args.size c.args.level c.args.start c.args.end (omega arith) ends above (omega arith) into in
+    let all = step-single (part d) (is_wanted w.from w.positions.now) w.versions.now T c.args.size c.args.level
+    c.args.start c.args.end (omega arith) ends above (omega arith) into in
     IfOk-weaker c.single.result _ _ (λ p is. is ∙ ap single c.in_ok-left.ensures ∙ sym all) c.single.ensures
 
 pub pruned-requires-2 : goal.pruned-requires-2
@@ -76,7 +82,8 @@ pruned-requires-2 g t c κs within =
     let half = c.left_leaves-half.ensures in
     let more = c.if-end-start.false in
     let left = aligned-left c.args.level c.args.start above c.requires.aligned in
-    let end : c.args.start + c.left_leaves-half.result ≡ c.args.start + min (2 ^ (c.args.level - 1)) (c.args.size - c.args.start) = omega arith in search (rules, arith)
+    let end : c.args.start + c.left_leaves-half.result ≡ c.args.start + min (2 ^ (c.args.level - 1)) (c.args.size -
+    c.args.start) = omega arith in search (rules, arith)
 
 pub pruned-requires-3 : goal.pruned-requires-3
 pruned-requires-3 g t c κs within =
@@ -87,7 +94,8 @@ pruned-requires-3 g t c κs within =
     let more = c.if-end-start.false in
     let right = aligned-right c.args.level c.args.start above c.requires.aligned in
     let low : c.args.start + c.left_leaves-half.result < c.args.size = omega arith in
-    let end : c.args.end ≡ c.args.start + c.left_leaves-half.result + min (2 ^ (c.args.level - 1)) (c.args.size - (c.args.start + c.left_leaves-half.result)) = omega arith in search (rules, arith)
+    let end : c.args.end ≡ c.args.start + c.left_leaves-half.result + min (2 ^ (c.args.level - 1)) (c.args.size -
+    (c.args.start + c.left_leaves-half.result)) = omega arith in search (rules, arith)
 
 pub returns : goal.returns
 returns g t c =
@@ -103,5 +111,8 @@ returns g t c =
     let more = c.if-end-start.false in
     let into = sym c.enters.ensures ∙ c.if-not-enters.false in
     let middle : c.args.start + c.left_leaves-half.result ≡ c.args.start + 2 ^ (c.args.level - 1) = omega arith in
-    let all = step-node (part d) (is_wanted w.from w.positions.now) w.versions.now T c.args.size c.args.level c.args.start (c.args.start + c.left_leaves-half.result) c.args.end (omega arith) ends above (omega arith) middle into in
-    IfOk-weaker c.node.result _ _ (λ p is. is ∙ node-of c.in_ok-left-2.ensures c.in_ok-right.ensures ∙ sym all) c.node.ensures
+    let all = step-node (part d) (is_wanted w.from w.positions.now) w.versions.now T c.args.size c.args.level
+    c.args.start (c.args.start + c.left_leaves-half.result) c.args.end (omega arith) ends above (omega arith)
+    middle into in
+    IfOk-weaker c.node.result _ _ (λ p is. is ∙ node-of c.in_ok-left-2.ensures c.in_ok-right.ensures
+    ∙ sym all) c.node.ensures
