@@ -1,3 +1,4 @@
 pub mod Causes
 pub mod Formats
 pub mod Messages
+pub mod Names
