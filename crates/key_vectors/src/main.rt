@@ -1,45 +1,41 @@
-//! Compares key streams, key trees and books of keys with lines that an independent program wrote. The parts of a line
-//! stand between bars; a line is one of
+//! Compares key streams, key trees and books of keys with a JSON document that an independent program wrote, read from
+//! standard input. Bytes are in hexadecimal digits, a number is one of JSON or decimal digits in a text, and `null` is
+//! no value. Its parts, of which a document may lack any, are
 //!
-//! | line | what is compared |
-//! |---|---|
-//! | `pad|KEY|STREAM|TEXT|PADDED` | the text, padded |
-//! | `tree|WALL|DEPTH|MASTER|ROOT` | a new tree, and its root key of epoch 0 |
-//! | `user|USER|SECRET` | nothing: a user with a book, and with the secret that the leaf keys are made of |
-//! | `plan|GENERATION|CHANGE|USER|SLOT|WRAPS` | slot and wraps of a plan |
-//! | `refused|GENERATION|CHANGE|USER|CAUSE` | why a change isn't planned |
-//! | `follow|GENERATION|CHANGE|USER|SLOT|WRAPS|FITS|ROOT|HOLDERS` | whether a change fits, the root key of its epoch, and which users' books hold it after they learnt the change |
-//! | `roots|USER|KEYS` | the root keys of a user's book, from epoch 0 on |
+//! - `pads`: a key, a stream number and a text. Compared is the text, padded.
+//! - `runs`: a tree, its users' secrets, and steps. Compared are the root key of epoch 0; of each step the slot and
+//!   the wraps that are planned, or why none are; where it is followed, whether it fits, the root key of its epoch,
+//!   and whose books hold it; and at the end the root keys in each book, from epoch 0 on.
+//! - `unfitting`: one tree, whose steps are the cases, and are followed in turn. Compared are whether a step fits, and
+//!   the root key of its epoch.
 //!
-//! where a change is `admit` or `remove`, bytes are in hexadecimal digits, `-` is none of them, of a list, or of a key,
-//! and lists have commas. For each line it prints `same` or `differs`, and at the end how many lines there were. It fails
-//! where a line differs.
+//! For each part it writes the index of each case that differs, from 0, a line each, and then
+//! `PART N cases, D differ`. Its status is 0 where none differs, 1 where one does, and 2 where the document or a case
+//! is malformed. It leaves a part that it doesn't know.
 #![tactic(auto)]
 
-use anyhow::{Result, anyhow};
-use compare::Comparison;
-use std::io::{BufRead, BufReader};
+use std::process::ExitCode;
+use vector_cases::{DocumentFault, compare, read_document, status};
 
-mod compare;
+mod pads;
 mod run;
+mod runs;
 #[cfg(test)]
 mod tests;
+mod unfitting;
 mod words;
 
-fn main(rt: HostRuntime) -> Result<()> {
+fn main(rt: HostRuntime) -> ExitCode {
+    let differ = compared(&rt);
+    ExitCode::from(status(&rt, differ))
+}
+
+/// How many cases differ.
+fn compared(rt: &HostRuntime) -> Result<u64, DocumentFault> {
     let alloc = rt.alloc();
-    let mut comparison = Comparison::new(alloc);
-    let mut lines = 0u64;
-    let mut differ = 0u64;
-    for line in BufReader::new(alloc, rt.reader())?.lines(alloc) {
-        let same = comparison.is_same(line?.as_str())?;
-        println!(rt; "{}", if same { "same" } else { "differs" })?;
-        lines = lines.saturating_add(1);
-        differ = differ.saturating_add(if same { 0 } else { 1 });
-    }
-    println!(rt; "{lines} lines, {differ} differ")?;
-    if differ > 0 {
-        return Err(anyhow!("a line differs"));
-    }
-    Ok(())
+    let document = read_document(alloc, &mut rt.reader())?;
+    let pads = compare(rt, alloc, &document, "pads", &mut pads::Pads)?;
+    let runs = compare(rt, alloc, &document, "runs", &mut runs::Runs)?;
+    let unfitting = unfitting::compare(rt, alloc, &document)?;
+    Ok(pads.saturating_add(runs).saturating_add(unfitting))
 }

@@ -1,32 +1,24 @@
-ghost use Rattle.std.specs.Prelude.{◌≡◌, ◌≤◌, true};
 ghost use Rattle.op_types.specs.Kinds.{is_change};
+ghost use Rattle.std.specs.Prelude.{◌≡◌, ◌≤◌, true};
 
-use crate::words::key_word;
-use anyhow::{Result, anyhow};
-use fr_bytes::Sequence;
+use crate::words::Step;
+use fr_bytes::{NoMemory, Sequence};
 use fr_digest::Dig;
-use key_graph::{KeyBook, KeyChange, KeyTree, PlanRefusal, leaf_key};
-use op_types::{Kind, READER, Wrap};
+use key_graph::{KeyBook, KeyTree, PlanRefusal, leaf_key};
+use op_types::{Kind, READER, Wrap, Wraps};
+use serde_json::Value;
 use std::alloc::Global;
-use std::string::String;
+use vector_cases::{CaseFault, byte_at, dig_at, small_at};
 
 /// A user of a run, with the secret that is shared with the owner.
 #[derive(Drop)]
-struct User {
-    user: u32,
-    secret: Dig,
-    book: KeyBook,
-}
-
-/// The change of a line.
-#[derive(Drop)]
-pub struct Line<'a> {
-    /// Its generation.
-    pub gen_: u32,
-    /// `admit` or `remove`.
-    pub change: &'a str,
-    /// The user.
+pub struct User {
+    /// The user's number.
     pub user: u32,
+    /// The secret that the user's leaf key is made of.
+    pub secret: Dig,
+    /// What the user learnt.
+    pub book: KeyBook,
 }
 
 /// A tree and the books of its users.
@@ -42,10 +34,13 @@ pub struct Run {
 }
 
 impl Run {
-    /// A run of a new tree, whose depth is 1 to 6.
-    pub fn new(alloc: Global, wall: u32, depth: u8, master: Dig) -> Result<Run> {
+    /// The run of a new tree of a case, without users.
+    pub fn of(alloc: Global, case: &Value) -> Result<Run, CaseFault> {
+        let wall = small_at(case, "wall")?;
+        let depth = byte_at(case, "depth")?;
+        let master = dig_at(case, "master")?;
         if depth < 1 || depth > 6 {
-            return Err(anyhow!("no depth of a tree"));
+            return Err(CaseFault::NoValue("a depth from 1 to 6"));
         }
         Ok(Run {
             alloc,
@@ -58,117 +53,75 @@ impl Run {
     }
 
     /// Adds a user with an empty book.
-    pub fn add(&mut self, user: u32, secret: Dig) -> Result<()> {
+    pub fn add(&mut self, user: u32, secret: Dig) -> Result<(), CaseFault> {
         let leaf = leaf_key(&secret, self.wall, user);
         let book = KeyBook::make(self.alloc, self.wall, self.depth, user, leaf)?;
         self.users.push(User { user, secret, book })?;
         Ok(())
     }
 
-    // The user's secret, or zero bytes.
-    fn secret(&self, user: u32) -> Dig {
-        for known in &self.users {
-            if known.user == user {
-                return known.secret;
-            }
-        }
-        [0; 32]
+    /// The users.
+    pub fn users(&self) -> &[User] {
+        self.users.as_slice()
     }
 
-    fn change(&self, line: &Line<'_>) -> KeyChange {
-        let user = line.user;
-        if line.change == "admit" {
-            let leaf = leaf_key(&self.secret(user), self.wall, user);
-            KeyChange::Admit { user, leaf }
-        } else {
-            KeyChange::Remove { user }
-        }
+    /// The user of this number.
+    pub fn user(&self, user: u32) -> Option<&User> {
+        self.users.iter().find(|known| known.user == user)
     }
 
-    /// Whether this slot and these wraps are planned.
-    pub fn is_planned(&self, line: &Line<'_>, slot: u8, wraps: &[Wrap]) -> bool {
-        match self.tree.plan(line.gen_, self.change(line)) {
-            Ok((found, all)) => found == slot && all.as_slice() == wraps,
-            Err(_) => false,
-        }
+    /// The leaf key of a user, who needn't be known.
+    fn leaf(&self, user: u32) -> Dig {
+        let secret = match self.user(user) {
+            Some(known) => known.secret,
+            None => [0; 32],
+        };
+        leaf_key(&secret, self.wall, user)
     }
 
-    /// The name of the cause for which the change isn't planned.
-    pub fn refusal(&self, line: &Line<'_>) -> &'static str {
-        match self.tree.plan(line.gen_, self.change(line)) {
-            Ok(_) => "-",
-            Err(PlanRefusal::AlreadyIn) => "AlreadyIn",
-            Err(PlanRefusal::NotIn) => "NotIn",
-            Err(PlanRefusal::NoSlot) => "NoSlot",
-            Err(PlanRefusal::NoMemory) => "NoMemory",
-        }
+    /// What is planned of a step.
+    pub fn plan(&self, step: &Step) -> Result<(u8, Wraps), PlanRefusal> {
+        let change = step.change(self.leaf(step.user));
+        self.tree.plan(step.generation, change)
     }
 
-    // Lets all books learn a change.
-    fn learn(&mut self, gen_: u32, kind: &Kind) -> Result<()>
-        requires { is_change kind.now ≡ true }
-    {
-        for known in &mut self.users {
-            known.book.learn(gen_, kind)?;
-        }
-        Ok(())
-    }
-
-    /// Follows a change, and says whether it fits.
-    pub fn follow(&mut self, line: &Line<'_>, slot: u8, wraps: Vec<Wrap>) -> Result<bool> {
-        let change = self.change(line);
-        let fits = self.tree.follow(line.gen_, change, slot)?;
+    /// Follows a step, lets all books learn it, and says whether it fits.
+    pub fn follow(&mut self, step: &Step, slot: u8, wraps: Vec<Wrap>) -> Result<bool, NoMemory> {
+        let change = step.change(self.leaf(step.user));
+        let fits = self.tree.follow(step.generation, change, slot)?;
         self.epochs = self.epochs.saturating_add(1);
-        let user = line.user;
+        let user = step.user;
         let wraps = Sequence::of(wraps);
-        let kind = match change {
-            KeyChange::Admit { .. } => Kind::Admit {
+        let kind = if step.admits {
+            Kind::Admit {
                 user,
                 role: READER,
                 slot,
                 wraps,
-            },
-            KeyChange::Remove { .. } => Kind::Remove { user, slot, wraps },
+            }
+        } else {
+            Kind::Remove { user, slot, wraps }
         };
-        self.learn(line.gen_, &kind)?;
+        self.learn(step.generation, &kind)?;
         Ok(fits)
     }
 
-    /// The root key of an epoch of the tree; of the last one with no number.
-    pub fn root(&self, epoch: Option<u64>) -> Result<String> {
-        key_word(
-            self.alloc,
-            &self.tree.root_key(epoch.unwrap_or(self.epochs)),
-        )
+    fn learn(&mut self, generation: u32, kind: &Kind) -> Result<(), NoMemory>
+        requires { is_change kind.now ≡ true }
+    {
+        for known in &mut self.users {
+            known.book.learn(generation, kind)?;
+        }
+        Ok(())
     }
 
-    /// The users whose books hold the last epoch's root key, with commas between them; `-` for none. A user whose book
-    /// has another key stands there with a `!`.
-    pub fn holders(&self) -> Result<String> {
-        let root = self.tree.root_key(self.epochs);
-        let mut all = String::new(self.alloc);
-        for known in &self.users {
-            let found = known.book.root_key(self.epochs);
-            if found.is_some() {
-                let mark = if found == root { "" } else { "!" };
-                let comma = if all.is_empty() { "" } else { "," };
-                let user = known.user;
-                all.push_str(format!(in self.alloc; "{comma}{mark}{user}")?.as_str())?;
-            }
-        }
-        if all.is_empty() {
-            all.push('-')?;
-        }
-        Ok(all)
+    /// The root key of the last epoch.
+    pub fn root(&self) -> Option<Dig> {
+        self.tree.root_key(self.epochs)
     }
 
-    /// The root key of an epoch, as a user's book has it; none without such a user.
-    pub fn root_of(&self, user: u32, epoch: u64) -> Option<Dig> {
-        for known in &self.users {
-            if known.user == user {
-                return known.book.root_key(epoch);
-            }
-        }
-        None
+    /// The last epoch's root key, as a user's book has it.
+    pub fn root_of(&self, known: &User) -> Option<Dig> {
+        known.book.root_key(self.epochs)
     }
 }

@@ -1,64 +1,63 @@
-use anyhow::{Context, Result, anyhow};
 use fr_digest::Dig;
-use hex::FromHex;
+use key_graph::KeyChange;
 use op_types::Wrap;
+use serde_json::Value;
 use std::alloc::Global;
-use std::string::String;
+use vector_cases::{CaseFault, dig_of, list_at, list_of, small_at, small_of, word_at};
 
-/// A number of 32 bits.
-pub fn number(word: &str) -> Result<u32> {
-    word.parse::<u32>().context("reading a number")
+/// What a step plans or follows, as a document tells it.
+#[derive(Clone, Copy)]
+pub struct Step {
+    /// The generation.
+    pub generation: u32,
+    /// Whether the user is admitted, and else removed.
+    pub admits: bool,
+    /// The user.
+    pub user: u32,
 }
 
-/// A slot.
-pub fn slot(word: &str) -> Result<u8> {
-    word.parse::<u8>().context("reading a slot")
-}
-
-/// A key.
-pub fn key(word: &str) -> Result<Dig> {
-    Ok(Dig::from_hex(word)?)
-}
-
-/// Bytes, `-` for none.
-pub fn bytes(alloc: Global, word: &str) -> Result<Vec<u8>> {
-    if word == "-" {
-        return Ok(Vec::new(alloc));
+impl Step {
+    /// The step of a case.
+    pub fn of(case: &Value) -> Result<Step, CaseFault> {
+        let admits = match word_at(case, "what")? {
+            "admit" => true,
+            "remove" => false,
+            _ => return Err(CaseFault::NoValue("admit or remove")),
+        };
+        Ok(Step {
+            generation: small_at(case, "gen")?,
+            admits,
+            user: small_at(case, "user")?,
+        })
     }
-    Ok(hex::decode(alloc, word)?)
+
+    /// The change, of a user with this leaf key.
+    pub fn change(&self, leaf: Dig) -> KeyChange {
+        let user = self.user;
+        if self.admits {
+            KeyChange::Admit { user, leaf }
+        } else {
+            KeyChange::Remove { user }
+        }
+    }
 }
 
-// A wrap: child, its generation and the body.
-fn wrap(word: &str) -> Result<Wrap> {
-    let Some((child, rest)) = word.split_once(':') else {
-        return Err(anyhow!("a wrap has no colon"));
-    };
-    let Some((gen_, body)) = rest.split_once(':') else {
-        return Err(anyhow!("a wrap has one colon"));
+fn wrap(value: &Value) -> Result<Wrap, CaseFault> {
+    let [child, child_gen, body] = list_of(value)? else {
+        return Err(CaseFault::NoValue("a wrap"));
     };
     Ok(Wrap {
-        child: number(child)?,
-        child_gen: number(gen_)?,
-        body: key(body)?,
+        child: small_of(child)?,
+        child_gen: small_of(child_gen)?,
+        body: dig_of(body)?,
     })
 }
 
-/// Wraps with commas between them, `-` for none.
-pub fn wraps(alloc: Global, word: &str) -> Result<Vec<Wrap>> {
+/// The wraps of a case.
+pub fn wraps_at(alloc: Global, case: &Value) -> Result<Vec<Wrap>, CaseFault> {
     let mut all = Vec::new(alloc);
-    if word == "-" {
-        return Ok(all);
-    }
-    for one in word.split(',') {
-        all.push(wrap(one)?)?;
+    for value in list_at(case, "wraps")? {
+        all.push(wrap(value)?)?;
     }
     Ok(all)
-}
-
-/// A key as a line has it: `-` for none.
-pub fn key_word(alloc: Global, key: &Option<Dig>) -> Result<String> {
-    match key {
-        Some(key) => Ok(hex::encode(alloc, key)?),
-        None => Ok(String::from_str(alloc, "-")?),
-    }
 }
