@@ -8,43 +8,36 @@ use vector_cases::{
     CaseFault, byte_at, bytes_at, bytes_of, dig_at, flag_at, list_at, number_at, small_at, word_at,
 };
 
-/// The request of a case's fields.
-pub fn request_of(alloc: Global, case: &Value) -> Result<Request, CaseFault> {
-    let wall = small_at(case, "wall")?;
-    match word_at(case, "request")? {
-        "look" => Ok(Request::Look {
-            wall,
-            have: number_at(case, "have")?,
-            whole: flag_at(case, "whole")?,
-        }),
-        "append" => Ok(Request::Append {
-            wall,
-            have: number_at(case, "have")?,
-            op: Bytes::of(bytes_at(alloc, case, "op")?),
-        }),
-        "keys" => Ok(Request::Keys {
-            wall,
-            size: number_at(case, "size")?,
-        }),
-        _ => Err(CaseFault::NoValue("the name of a request")),
-    }
+fn look(case: &Value) -> Result<Request, CaseFault> {
+    Ok(Request::Look {
+        wall: small_at(case, "wall")?,
+        have: number_at(case, "have")?,
+        whole: flag_at(case, "whole")?,
+    })
 }
 
-/// The reply of a case's fields.
-pub fn reply_of(alloc: Global, case: &Value) -> Result<Reply, CaseFault> {
-    match word_at(case, "reply")? {
-        "show" => show(alloc, case),
-        "refused" => Ok(Reply::Refused {
-            wall: small_at(case, "wall")?,
-            cause: byte_at(case, "cause")?,
-            number: number_at(case, "number")?,
-        }),
-        "key_ops" => Ok(Reply::KeyOps {
-            wall: small_at(case, "wall")?,
-            size: number_at(case, "size")?,
-            tree: Bytes::of(bytes_at(alloc, case, "tree")?),
-        }),
-        _ => Err(CaseFault::NoValue("the name of a reply")),
+fn append(alloc: Global, case: &Value) -> Result<Request, CaseFault> {
+    Ok(Request::Append {
+        wall: small_at(case, "wall")?,
+        have: number_at(case, "have")?,
+        op: Bytes::of(bytes_at(alloc, case, "op")?),
+    })
+}
+
+fn keys(case: &Value) -> Result<Request, CaseFault> {
+    Ok(Request::Keys {
+        wall: small_at(case, "wall")?,
+        size: number_at(case, "size")?,
+    })
+}
+
+/// The request of a case's fields.
+pub fn request_of(alloc: Global, case: &Value) -> Result<Request, CaseFault> {
+    match word_at(case, "request")? {
+        "look" => look(case),
+        "append" => append(alloc, case),
+        "keys" => keys(case),
+        _ => Err(CaseFault::NoValue("the name of a request")),
     }
 }
 
@@ -73,21 +66,56 @@ fn view(alloc: Global, case: &Value) -> Result<View, CaseFault> {
     })
 }
 
-fn lists(alloc: Global, case: &Value) -> Result<Texts, CaseFault> {
+fn texts_of(alloc: Global, lists: &[Value]) -> Result<Texts, CaseFault> {
     let mut all = Vec::new(alloc);
-    if case.get("lists").is_some() {
-        for list in list_at(case, "lists")? {
-            all.push(Bytes::of(bytes_of(alloc, list)?))?;
-        }
+    for list in lists {
+        all.push(Bytes::of(bytes_of(alloc, list)?))?;
     }
     Ok(Sequence::of(all))
 }
 
+fn lists(alloc: Global, case: &Value) -> Result<Texts, CaseFault> {
+    if case.get("lists").is_none() {
+        return Ok(Sequence::of(Vec::new(alloc)));
+    }
+    texts_of(alloc, list_at(case, "lists")?)
+}
+
 fn show(alloc: Global, case: &Value) -> Result<Reply, CaseFault> {
+    let from = number_at(case, "from")?;
+    let view = view(alloc, case)?;
+    let tree = bytes_or_none(alloc, case, "tree")?;
+    let dicts = lists(alloc, case)?;
     Ok(Reply::Show {
-        view: view(alloc, case)?,
-        from: number_at(case, "from")?,
-        tree: bytes_or_none(alloc, case, "tree")?,
-        dicts: lists(alloc, case)?,
+        view,
+        from,
+        tree,
+        dicts,
     })
+}
+
+fn refused(case: &Value) -> Result<Reply, CaseFault> {
+    Ok(Reply::Refused {
+        wall: small_at(case, "wall")?,
+        cause: byte_at(case, "cause")?,
+        number: number_at(case, "number")?,
+    })
+}
+
+fn key_ops(alloc: Global, case: &Value) -> Result<Reply, CaseFault> {
+    Ok(Reply::KeyOps {
+        wall: small_at(case, "wall")?,
+        size: number_at(case, "size")?,
+        tree: Bytes::of(bytes_at(alloc, case, "tree")?),
+    })
+}
+
+/// The reply of a case's fields.
+pub fn reply_of(alloc: Global, case: &Value) -> Result<Reply, CaseFault> {
+    match word_at(case, "reply")? {
+        "show" => show(alloc, case),
+        "refused" => refused(case),
+        "key_ops" => key_ops(alloc, case),
+        _ => Err(CaseFault::NoValue("the name of a reply")),
+    }
 }

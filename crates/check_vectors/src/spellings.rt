@@ -1,6 +1,8 @@
+ghost use Rattle.msg_form.specs.Messages.{SpellsReply, SpellsRequest};
+
 use crate::messages::{reply_of, request_of};
 use fr_bytes::ReadRefusal;
-use msg_form::{read_reply, read_request, write_reply, write_request};
+use msg_form::{Reply, Request, read_reply, read_request, write_reply, write_request};
 use serde_json::Value;
 use std::alloc::Global;
 use vector_cases::{CaseFault, Cases, bytes_at};
@@ -19,20 +21,32 @@ impl Cases for Spellings {
     }
 }
 
+fn is_request_written(alloc: Global, found: &Request, bytes: &[u8]) -> Result<bool, CaseFault>
+    requires { SpellsRequest found.now bytes.now }
+{
+    Ok(write_request(alloc, found)?.as_slice() == bytes)
+}
+
 fn is_request(alloc: Global, case: &Value, bytes: &[u8]) -> Result<bool, CaseFault> {
     let wanted = request_of(alloc, case)?;
     match read_request(alloc, bytes) {
-        Ok(found) if found == wanted => { Ok(write_request(alloc, &found)?.as_slice() == bytes) }
-        Ok(_) | Err(ReadRefusal::NotForm) => Ok(false),
+        Ok(found) => Ok(found == wanted && is_request_written(alloc, &found, bytes)?),
+        Err(ReadRefusal::NotForm) => Ok(false),
         Err(ReadRefusal::NoMemory) => Err(CaseFault::NoMemory),
     }
+}
+
+fn is_reply_written(alloc: Global, found: &Reply, bytes: &[u8]) -> Result<bool, CaseFault>
+    requires { SpellsReply found.now bytes.now }
+{
+    Ok(write_reply(alloc, found)?.as_slice() == bytes)
 }
 
 fn is_reply(alloc: Global, case: &Value, bytes: &[u8]) -> Result<bool, CaseFault> {
     let wanted = reply_of(alloc, case)?;
     match read_reply(alloc, bytes) {
-        Ok(found) if found == wanted => { Ok(write_reply(alloc, &found)?.as_slice() == bytes) }
-        Ok(_) | Err(ReadRefusal::NotForm) => Ok(false),
+        Ok(found) => Ok(found == wanted && is_reply_written(alloc, &found, bytes)?),
+        Err(ReadRefusal::NotForm) => Ok(false),
         Err(ReadRefusal::NoMemory) => Err(CaseFault::NoMemory),
     }
 }
