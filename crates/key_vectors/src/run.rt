@@ -21,6 +21,24 @@ pub struct User {
     pub book: KeyBook,
 }
 
+// What the operation of a step has.
+fn kind_of(step: &Step, slot: u8, wraps: Wraps) -> Kind
+    ensures { is_change result ≡ true }
+{
+    let user = step.user;
+    if step.admits {
+        let role = READER;
+        Kind::Admit {
+            user,
+            role,
+            slot,
+            wraps,
+        }
+    } else {
+        Kind::Remove { user, slot, wraps }
+    }
+}
+
 /// A tree and the books of its users.
 #[derive(Drop)]
 pub struct Run {
@@ -90,18 +108,7 @@ impl Run {
         let change = step.change(self.leaf(step.user));
         let fits = self.tree.follow(step.generation, change, slot)?;
         self.epochs = self.epochs.saturating_add(1);
-        let user = step.user;
-        let wraps = Sequence::of(wraps);
-        let kind = if step.admits {
-            Kind::Admit {
-                user,
-                role: READER,
-                slot,
-                wraps,
-            }
-        } else {
-            Kind::Remove { user, slot, wraps }
-        };
+        let kind = kind_of(step, slot, Sequence::of(wraps));
         self.learn(step.generation, &kind)?;
         Ok(fits)
     }

@@ -2,6 +2,7 @@ use crate::run::Run;
 use crate::words::{Step, wraps_at};
 use fr_digest::Dig;
 use key_graph::PlanRefusal;
+use op_types::Wraps;
 use serde_json::Value;
 use std::alloc::Global;
 use vector_cases::{
@@ -15,12 +16,8 @@ pub struct Runs;
 
 impl Cases for Runs {
     fn is_same(&mut self, alloc: Global, case: &Value) -> Result<bool, CaseFault> {
-        let mut run = Run::of(alloc, case)?;
-        add_users(&mut run, case)?;
-        if run.root() != Some(dig_at(case, "epoch0")?) {
-            return Ok(false);
-        }
-        Ok(are_steps(alloc, &mut run, list_at(case, "run")?)? && are_books(&run, case)?)
+        let mut run = run_of(alloc, case)?;
+        is_run(alloc, &mut run, case)
     }
 }
 
@@ -40,6 +37,21 @@ fn add_users(run: &mut Run, case: &Value) -> Result<(), CaseFault> {
         run.add(user_of(user.as_str())?, dig_of(secret)?)?;
     }
     Ok(())
+}
+
+/// The run of a new tree of a case, with its users.
+fn run_of(alloc: Global, case: &Value) -> Result<Run, CaseFault> {
+    let mut run = Run::of(alloc, case)?;
+    add_users(&mut run, case)?;
+    Ok(run)
+}
+
+fn is_run(alloc: Global, run: &mut Run, case: &Value) -> Result<bool, CaseFault> {
+    let root = dig_at(case, "epoch0")?;
+    if run.root() != Some(root) || !are_steps(alloc, run, list_at(case, "run")?)? {
+        return Ok(false);
+    }
+    are_books(run, case)
 }
 
 // ---- steps
@@ -73,17 +85,25 @@ fn cause(refusal: PlanRefusal) -> &'static str {
     }
 }
 
+fn is_refused(refusal: PlanRefusal, case: &Value) -> Result<bool, CaseFault> {
+    if refusal == PlanRefusal::NoMemory {
+        return Err(CaseFault::NoMemory);
+    }
+    Ok(case.get("refused").is_some() && word_at(case, "refused")? == cause(refusal))
+}
+
+fn is_plan(alloc: Global, slot: u8, wraps: &Wraps, case: &Value) -> Result<bool, CaseFault> {
+    if case.get("refused").is_some() || slot != byte_at(case, "slot")? {
+        return Ok(false);
+    }
+    Ok(wraps.as_slice() == wraps_at(alloc, case)?.as_slice())
+}
+
 /// Whether the case's slot and wraps are planned, or what it is refused for.
 fn is_planned(alloc: Global, run: &Run, step: &Step, case: &Value) -> Result<bool, CaseFault> {
-    let planned = run.plan(step);
-    let refused = case.get("refused").is_some();
-    match planned {
-        Err(PlanRefusal::NoMemory) => Err(CaseFault::NoMemory),
-        Err(refusal) => Ok(refused && word_at(case, "refused")? == cause(refusal)),
-        Ok(_) if refused => Ok(false),
-        Ok((slot, wraps)) => Ok(
-            slot == byte_at(case, "slot")? && wraps.as_slice() == wraps_at(alloc, case)?.as_slice(),
-        ),
+    match run.plan(step) {
+        Ok((slot, wraps)) => is_plan(alloc, slot, &wraps, case),
+        Err(refusal) => is_refused(refusal, case),
     }
 }
 
@@ -101,24 +121,30 @@ fn has_user(list: &[Value], user: u32) -> bool {
     list.iter().any(|one| small_of(one) == Ok(user))
 }
 
-/// Whether exactly the users of the list hold the last epoch's root key, and the others' books none.
-fn are_holders(run: &Run, root: &Dig, list: &[Value]) -> Result<bool, CaseFault> {
-    for holder in list {
-        if run.user(small_of(holder)?).is_none() {
-            return Ok(false);
-        }
-    }
-    for known in run.users() {
-        let wanted = if has_user(list, known.user) {
-            Some(*root)
-        } else {
-            None
-        };
-        if run.root_of(known) != wanted {
+fn are_users(run: &Run, list: &[Value]) -> Result<bool, CaseFault> {
+    for user in list {
+        if run.user(small_of(user)?).is_none() {
             return Ok(false);
         }
     }
     Ok(true)
+}
+
+/// Whether the books of a list's users have the last epoch's root key, and the others' books none.
+fn are_books_of(run: &Run, root: &Dig, list: &[Value]) -> bool {
+    for known in run.users() {
+        let found = run.root_of(known);
+        let holds = has_user(list, known.user);
+        if (holds && found != Some(*root)) || (!holds && found.is_some()) {
+            return false;
+        }
+    }
+    true
+}
+
+/// Whether exactly the users of the list hold the last epoch's root key, and the others' books none.
+fn are_holders(run: &Run, root: &Dig, list: &[Value]) -> Result<bool, CaseFault> {
+    Ok(are_users(run, list)? && are_books_of(run, root, list))
 }
 
 // ---- books

@@ -25,9 +25,19 @@ pub fn compare<R: Print>(rt: &R, alloc: Global, document: &Value) -> Result<u64,
         return Ok(0);
     };
     let mut tally = Tally::new(alloc, "unfitting");
-    match (Run::of(alloc, part), field(part, "run")) {
-        (Ok(run), Ok(steps)) => tally.add(steps, &mut Unfitting { run })?,
-        (Err(cause), _) | (_, Err(cause)) => return Err(tally.fault(cause)),
-    }
+    add(&mut tally, alloc, part)?;
     tally.tell(rt)
+}
+
+fn add(tally: &mut Tally, alloc: Global, part: &Value) -> Result<(), DocumentFault> {
+    match run_of(alloc, part) {
+        Ok((run, steps)) => tally.add(steps, &mut Unfitting { run }),
+        Err(cause) => Err(tally.fault(cause)),
+    }
+}
+
+/// The run of a new tree of a part, and its steps.
+fn run_of(alloc: Global, part: &Value) -> Result<(Run, &Value), CaseFault> {
+    let steps = field(part, "run")?;
+    Ok((Run::of(alloc, part)?, steps))
 }
