@@ -1,8 +1,8 @@
-ghost use Rattle.std.specs.Prelude.{◌≡◌};
+ghost use Rattle.std.specs.Prelude.{◌≡◌, ◌%◌, ◌^◌, IsTrue};
 
 use crate::words::is_tree;
 use fr_bytes::{Bytes, NoMemory};
-use fr_digest::Sha;
+use fr_digest::{Dig, Sha};
 use hist_tree::Hist;
 use serde_json::Value;
 use std::alloc::Global;
@@ -94,15 +94,30 @@ fn is_part(hist: &Hist<Sha, Line>, case: &Value) -> Result<bool, CaseFault> {
     let level = small_at(case, "level")?;
     let start = number_at(case, "start")?;
     let wanted = dig_at(case, "part")?;
-    if size > hist.size() || start >= size || level > depth_of(size) || !is_aligned(start, level) {
-        return Err(CaseFault::NoValue("a node of a version"));
+    match part_of(hist, size, level, start) {
+        Some(part) => Ok(part == wanted),
+        None => Err(CaseFault::NoValue("a node of a version")),
     }
-    Ok(hist.part(size, level, start) == wanted)
+}
+
+/// The digest of a node of a version, where the version has the node.
+fn part_of(hist: &Hist<Sha, Line>, size: u64, level: u32, start: u64) -> Option<Dig> {
+    if size > hist.size() || start >= size {
+        return None;
+    }
+    if level > depth_of(size) || !is_aligned(start, level) {
+        return None;
+    }
+    Some(hist.part(size, level, start))
 }
 
 /// Whether the positions of a node of this height may begin at `start`.
 fn is_aligned(start: u64, level: u32) -> bool
     ensures { IsTrue result → start % 2 ^ level ≡ 0 }
 {
-    level < 64 && start % left_leaves(level + 1) as u64 == 0
+    if level >= 64 {
+        return false;
+    }
+    let leaves = left_leaves(level + 1) as u64;
+    start % leaves == 0
 }

@@ -1,8 +1,9 @@
 ghost use Rattle.dict_proof.specs.View.{change_view};
-ghost use Rattle.tree_model.specs.AccessList.{FitsChange};
+ghost use Rattle.std.specs.Prelude.{◌≡◌, IsTrue, None};
+ghost use Rattle.tree_model.specs.AccessList.{FitsChange, IsListed, entry_of};
 
 use crate::changes::change_of;
-use crate::words::{entry_of, is_list};
+use crate::words::{self, is_list};
 use dict_proof::{Change, DictEnd, PrunedDict, apply, digest, keeps_author};
 use dict_treap::Dict;
 use fr_digest::Sha;
@@ -20,18 +21,37 @@ pub struct Least;
 
 impl Cases for Least {
     fn is_same(&mut self, alloc: Global, case: &Value) -> Result<bool, CaseFault> {
-        let dict = dict_at(alloc, case)?;
         let author = small_at(case, "author")?;
         let change = change_of(field(case, "change")?)?;
-        if !fits_change(&dict, author, change) {
-            return Err(CaseFault::NoValue("a change that fits the list"));
+        let least = least_at(alloc, case, author, change)?;
+        if !is_list(alloc, &least, field(case, "least")?)? {
+            return Ok(false);
         }
-        let least = prune_for(alloc, &dict, author, change)?;
-        Ok(
-            is_list(alloc, &least, field(case, "least")?)?
-                && is_after(alloc, least, author, change, case)?,
-        )
+        is_after(alloc, least, author, change, case)
     }
+}
+
+/// The least list of a case's entries for the change.
+fn least_at(
+    alloc: Global,
+    case: &Value,
+    author: u32,
+    change: Change,
+) -> Result<PrunedDict, CaseFault> {
+    let dict = dict_at(alloc, case)?;
+    if !fits_change(&dict, author, change) {
+        return Err(CaseFault::NoValue("a change that fits the list"));
+    }
+    Ok(prune_for(alloc, &dict, author, change)?)
+}
+
+/// The list with a further entry.
+fn with_entry(dict: &Dict<Sha>, value: &Value) -> Result<Dict<Sha>, CaseFault> {
+    let entry = words::entry_of(value)?;
+    if !is_free(dict, entry.user) {
+        return Err(CaseFault::NoValue("one entry a user"));
+    }
+    Ok(dict.insert(entry)?)
 }
 
 /// The list of a case's entries.
@@ -39,26 +59,45 @@ fn dict_at(alloc: Global, case: &Value) -> Result<Dict<Sha>, CaseFault> {
     let Some((first, rest)) = list_at(case, "entries")?.split_first() else {
         return Err(CaseFault::NoValue("an entry"));
     };
-    let mut dict = Dict::one(alloc, entry_of(first)?)?;
+    let mut dict = Dict::one(alloc, words::entry_of(first)?)?;
     for value in rest {
-        let entry = entry_of(value)?;
-        if dict.get(entry.user).is_some() {
-            return Err(CaseFault::NoValue("one entry a user"));
-        }
-        dict = dict.insert(entry)?;
+        dict = with_entry(&dict, value)?;
     }
     Ok(dict)
 }
 
+/// Whether a user is in a list.
+fn is_listed(dict: &Dict<Sha>, user: u32) -> bool
+    ensures { IsTrue result → IsListed dict.now user }
+{
+    match dict.get(user) {
+        None => false,
+        Some(_) => true,
+    }
+}
+
+/// Whether a user isn't in a list.
+fn is_free(dict: &Dict<Sha>, user: u32) -> bool
+    ensures { IsTrue result → entry_of dict.now user ≡ None }
+{
+    match dict.get(user) {
+        None => true,
+        Some(_) => false,
+    }
+}
+
+/// Whether the author may make the change of the list.
 fn fits_change(dict: &Dict<Sha>, author: u32, change: Change) -> bool
     ensures { IsTrue result → FitsChange dict.now author (change_view change) }
 {
-    let fits = match change {
+    if !is_listed(dict, author) {
+        return false;
+    }
+    match change {
         Change::None => true,
-        Change::Insert(entry) => dict.get(entry.user).is_none(),
-        Change::Remove(user) => user != author && dict.get(user).is_some(),
-    };
-    fits && dict.get(author).is_some()
+        Change::Insert(entry) => is_free(dict, entry.user),
+        Change::Remove(user) => user != author && is_listed(dict, user),
+    }
 }
 
 /// Whether the operation leaves of the list what has the case's digest.

@@ -111,6 +111,11 @@ impl<D: Digester> Sized<D> {
         Ok(matches!(&clash_of_tree(alloc, kept, &texts)?, Some(None)))
     }
 
+    /// Whether the tree prunes a case's list exactly where the case says so.
+    fn prunes_so(&self, alloc: Global, case: &Value) -> Result<bool, CaseFault> {
+        Ok(self.prunes(alloc, case)? == flag_at(case, "prunes")?)
+    }
+
     /// Whether the tree gives what a case of a small size tells.
     fn gives(&self, alloc: Global, case: &Value) -> Result<bool, CaseFault> {
         Ok(
@@ -151,5 +156,8 @@ fn is_same_tree<D: Digester>(alloc: Global, case: &Value) -> Result<bool, CaseFa
     if fits(&sized.tree, sized.size) != fit || sized.kept.is_some() != fit {
         return Ok(false);
     }
-    Ok(!is_small(case) || sized.gives(alloc, case)?)
+    if !is_small(case) {
+        return Ok(true);
+    }
+    Ok(sized.prunes_so(alloc, case)? && sized.gives(alloc, case)?)
 }
