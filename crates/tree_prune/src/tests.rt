@@ -1,5 +1,7 @@
 use crate::history::{least_trees, shown_lists};
-use crate::{prune, prune_at};
+use crate::{fits_change, prune, prune_at, prune_for};
+use dict_proof::{Change, PrunedDict, apply, digest, keeps_author};
+use dict_treap::Dict;
 use fr_bytes::{Bytes, NoMemory};
 use fr_digest::{Sha, Short};
 use hist_proof::{Pruned, read_pruned};
@@ -7,7 +9,7 @@ use hist_tree::Hist;
 use std::alloc::Global;
 use std::process::Abort;
 use std::test::Fail;
-use tree_model::HasText;
+use tree_model::{Entry, HasText};
 
 /// An item that is its text.
 #[derive(Drop)]
@@ -147,4 +149,60 @@ fn laws_hold_at_both_digests() {
     least_trees::<Sha>();
     least_trees::<Short>();
     shown_lists();
+}
+
+// The digests of the access list of the owner 1 and the writers 2, 3 and 4, and of that without 3, from an independent
+// program.
+const FOUR: &str = "a7248e92e5f392603611d223de2bc53fe4d54077013043b5b9693449eebf46bb";
+
+const WITHOUT_3: &str = "cb3017ee93ceb453e2be835d19ced9a0dd25b1bb9d3100a7faa41363e8657605";
+
+fn entry(user: u32, role: u8) -> Entry {
+    Entry {
+        user,
+        role,
+        next: 0,
+    }
+}
+
+fn with(rt: &impl Abort, dict: &Dict<Sha>, entry: Entry) -> Result<Dict<Sha>, NoMemory> {
+    assert!(rt; dict.get(entry.user).is_none());
+    dict.insert(entry)
+}
+
+fn four(rt: &impl Abort, alloc: Global) -> Result<Dict<Sha>, NoMemory> {
+    let mut dict = Dict::one(alloc, entry(1, 3))?;
+    for user in 2..5 {
+        dict = with(rt, &dict, entry(user, 2))?;
+    }
+    Ok(dict)
+}
+
+fn least(
+    rt: &impl Abort,
+    alloc: Global,
+    dict: &Dict<Sha>,
+    change: Change,
+) -> Result<PrunedDict, NoMemory> {
+    assert!(rt; fits_change(dict, 1, change));
+    prune_for(alloc, dict, 1, change)
+}
+
+// The digest that an operation of user 1 leaves of the least list for it.
+fn digest_after(rt: &impl Abort, alloc: Global, change: Change) -> Result<String, Fail> {
+    let list = least(rt, alloc, &four(rt, alloc)?, change)?;
+    assert!(rt; keeps_author(&list, 1, change));
+    let after = apply(alloc, list, 1, 0, change)?;
+    Ok(hex::encode(alloc, &digest::<Sha>(&after))?)
+}
+
+#[test]
+fn an_operation_on_its_least_list_leaves_the_digest_of_the_list(
+    rt: HostRuntime,
+) -> Result<(), Fail> {
+    for (change, want) in [(Change::None, FOUR), (Change::Remove(3), WITHOUT_3)] {
+        let found = digest_after(&rt, rt.alloc(), change)?;
+        assert_eq!(rt; found.as_str(), want);
+    }
+    Ok(())
 }

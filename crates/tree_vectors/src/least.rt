@@ -1,6 +1,5 @@
-ghost use Rattle.dict_proof.specs.View.{change_view};
 ghost use Rattle.std.specs.Prelude.{◌≡◌, IsTrue, None};
-ghost use Rattle.tree_model.specs.AccessList.{FitsChange, IsListed, entry_of};
+ghost use Rattle.tree_model.specs.AccessList.{entry_of};
 
 use crate::changes::change_of;
 use crate::words::{self, is_list};
@@ -9,7 +8,7 @@ use dict_treap::Dict;
 use fr_digest::Sha;
 use serde_json::Value;
 use std::alloc::Global;
-use tree_prune::prune_for;
+use tree_prune::{fits_change, prune_for};
 use vector_cases::{CaseFault, Cases, dig_at, field, list_at, small_at};
 
 /// The next number that the author gets in a case.
@@ -66,16 +65,6 @@ fn dict_at(alloc: Global, case: &Value) -> Result<Dict<Sha>, CaseFault> {
     Ok(dict)
 }
 
-/// Whether a user is in a list.
-fn is_listed(dict: &Dict<Sha>, user: u32) -> bool
-    ensures { IsTrue result → IsListed dict.now user }
-{
-    match dict.get(user) {
-        None => false,
-        Some(_) => true,
-    }
-}
-
 /// Whether a user isn't in a list.
 fn is_free(dict: &Dict<Sha>, user: u32) -> bool
     ensures { IsTrue result → entry_of dict.now user ≡ None }
@@ -83,20 +72,6 @@ fn is_free(dict: &Dict<Sha>, user: u32) -> bool
     match dict.get(user) {
         None => true,
         Some(_) => false,
-    }
-}
-
-/// Whether the author may make the change of the list.
-fn fits_change(dict: &Dict<Sha>, author: u32, change: Change) -> bool
-    ensures { IsTrue result → FitsChange dict.now author (change_view change) }
-{
-    if !is_listed(dict, author) {
-        return false;
-    }
-    match change {
-        Change::None => true,
-        Change::Insert(entry) => is_free(dict, entry.user),
-        Change::Remove(user) => user != author && is_listed(dict, user),
     }
 }
 
