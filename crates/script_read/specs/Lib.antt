@@ -1,0 +1,12 @@
+pub mod Refusal
+pub mod Fields
+pub mod Elements
+pub mod Users
+pub mod Walls
+pub mod Commands
+pub mod Phases
+pub mod Tamper
+pub mod Script
+pub mod Known
+pub mod Writes
+pub mod Reading
