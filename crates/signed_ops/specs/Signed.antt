@@ -3,7 +3,8 @@
 use Rattle.std.specs.Prelude.{◌≡◌, ◌+◌, ℕ, Bool, false, List, Option, Some, None, find, nat_eq}
 use Rattle.std.specs.Option.{option_map}
 use Rattle.op_types.specs.declared.op.Op.{Op}
-use Rattle.op_types.specs.Spelling.{op_signed}
+use Rattle.op_types.specs.declared.view.View.{View}
+use Rattle.op_types.specs.Spelling.{op_signed, view_signed}
 use Rattle.lms_tree.specs.Valid.{Key, Valid, is_valid}
 use Rattle.lms_tree.specs.Signer.{Signing, signature_at}
 
@@ -28,6 +29,12 @@ pub record IsAuthorSigned (keys : List (ℕ × Key)) (op : Op) : Type 0 where
   pub key : Key
   pub listed : key_of keys op.author ≡ Some key
   pub valid : Valid key (op_signed op) op.sig
+
+-- ---- signatures of servers
+
+-- The signature of a view is valid under the server's key, over the view's message.
+unfoldable pub is_view_signed : Key → View → Bool
+is_view_signed key view = is_valid key (view_signed view.wall view.size view.root) view.sig
 
 -- ---- signing
 

@@ -6,7 +6,7 @@ use super::*;
 use fr_bytes::Sequence;
 use lms_params::{Pair, pair_of};
 use lms_tree::{SignRefusal, Signer, UserKeys};
-use op_types::{Op, read_op};
+use op_types::{Op, View, read_op, view_message};
 use std::alloc::{AllocError, Global};
 use std::test::Fail;
 
@@ -132,6 +132,30 @@ fn a_signature_is_of_what_was_signed(rt: HostRuntime) -> Result<(), Fail> {
         assert_eq!(rt; is_signed_doing(alloc, &keys, kind, &mut signer)?, want);
     }
     assert!(rt; !is_author_signed(alloc, &keys, &unsigned(alloc, 1, POST_A)?)?);
+    Ok(())
+}
+
+/// A view of wall 1 that covers this many operations, under the signature of one that covers 1.
+fn signed_view(signer: &mut Signer, size: u64) -> Result<View, Fail> {
+    let root = [7; 32];
+    let sig = signer.sign(&view_message(1, 1, &root))?;
+    Ok(View {
+        wall: 1,
+        size,
+        root,
+        sig,
+    })
+}
+
+#[test]
+fn a_view_is_signed_under_its_servers_key(rt: HostRuntime) -> Result<(), Fail> {
+    let alloc = rt.alloc();
+    let mut server = signer_of(alloc, 1)?;
+    let key = server.public();
+    for (size, want) in [(0, false), (1, true), (2, false)] {
+        let view = signed_view(&mut server, size)?;
+        assert_eq!(rt; (size, is_view_signed(&key, &view)), (size, want));
+    }
     Ok(())
 }
 

@@ -8,12 +8,12 @@ use Rattle.op_types.specs.declared.op.Op.{Op}
 use Rattle.op_types.specs.declared.op.Leaf.{Leaf}
 use Rattle.op_types.specs.Kinds.{is_change, changed_user}
 use Rattle.tree_model.specs.declared.entry.Entry.{Entry}
-use Rattle.tree_model.specs.AccessList.{IsRising, entry_of, dict}
+use Rattle.tree_model.specs.AccessList.{IsRising, entry_of}
 use Rattle.tree_model.proofs.ListChanges.{rising-changed_set}
 use Rattle.wall_law.specs.declared.state.State.{State}
 use Rattle.wall_law.specs.State.{opening, change_of, epoch_after, after, state_of}
 use Rattle.wall_law.specs.Law.{may_add, next_of, is_bad_change, law_of, law}
-use Rattle.wall_law.specs.Lawful.{Told, told, told_of, PositionPasses, Lawful}
+use Rattle.wall_law.specs.Lawful.{Lawful}
 
 -- ---- states of histories
 
@@ -124,15 +124,3 @@ lawful-take d owner wall leaves n lawful k leaf at =
     let before = take-take k n leaves (omega arith) in
     let behind = take-take (k + 1) n leaves (omega arith) in
     record { lawful = rw before it.lawful; tells = rw behind it.tells }
-
--- ---- one position
-
--- What a check finds of one position, over the state's own entries and the digest of the list that the
--- operation leaves, is that the position is lawful.
-pub position-step : (d : Digest) (s : State) (root_at : ℕ → Option (List ℕ)) (list_after : List ℕ) (wall k : ℕ) (leaf : Leaf)
-    → list_after ≡ dict d (after s leaf.op).entries
-    → PositionPasses (told_of d s) (entry_of s.entries leaf.op.author) (option_and_then (λ (user : ℕ). entry_of s.entries user) (changed_user leaf.op.kind)) list_after root_at wall k leaf
-    → (law s wall k leaf.op ≡ None) × (told leaf ≡ told_of d (after s leaf.op))
-unfolding law
-position-step d s root_at list_after wall k leaf same passes =
-    (passes.lawful, passes.tells ∙ ap (λ (x : List ℕ). let t : Told = record { list = x; epoch = epoch_after s.epoch leaf.op } in t) same)

@@ -1,3 +1,5 @@
 pub mod Extensions
 pub mod Histories
 pub mod Owners
+pub mod Positions
+pub mod Rows

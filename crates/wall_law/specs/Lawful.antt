@@ -1,13 +1,12 @@
 -- Lawful histories.
-use Rattle.std.specs.Prelude.{◌≡◌, ℕ, ◌+◌, ◌<◌, List, take, Option, Some, None, slice_get}
+use Rattle.std.specs.Prelude.{◌≡◌, ℕ, ◌+◌, List, take, Some, None, slice_get}
 use Rattle.fr_bytes.specs.Bytes.{Text}
 use Rattle.fr_digest.specs.Digest.{Digest}
 use Rattle.op_types.specs.declared.op.Leaf.{Leaf}
-use Rattle.tree_model.specs.declared.entry.Entry.{Entry}
 use Rattle.tree_model.specs.AccessList.{dict}
 use Rattle.wall_law.specs.declared.state.State.{State}
-use Rattle.wall_law.specs.State.{after, state_of, epoch_after}
-use Rattle.wall_law.specs.Law.{law_of, law}
+use Rattle.wall_law.specs.State.{after, state_of}
+use Rattle.wall_law.specs.Law.{law}
 
 -- what a leaf tells of the state after it: the digest of the access list and the epoch
 pub record Told : Type 0 where
@@ -19,14 +18,6 @@ told leaf = record { list = leaf.after; epoch = leaf.epoch }
 
 abbrev pub told_of : Digest → State → Told
 told_of d s = record { list = dict d s.entries; epoch = s.epoch }
-
--- One position passes, over what was told before it, the entries that were found, the digest of the list
--- that its operation leaves, and the roots of the versions before it.
-pub record PositionPasses (before : Told) (author changed : Option Entry) (list_after : Text) (root_at : ℕ → Option Text)
-    (wall k : ℕ) (leaf : Leaf) : Type 0 where
-  pub lawful : law_of author changed before.epoch wall k leaf.op ≡ None
-  pub seen : 0 < leaf.op.view.size → root_at leaf.op.view.size ≡ Some leaf.op.view.root
-  pub tells : told leaf ≡ (record { list = list_after; epoch = epoch_after before.epoch leaf.op })
 
 -- A position of a history is lawful: the law has no refusal in the state of the operations before it,
 -- and its leaf tells the state after it.

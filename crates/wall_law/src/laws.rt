@@ -1,16 +1,15 @@
 //! The laws of lawful histories. Each function has an empty body, and its contract is the law.
 ghost use Rattle.op_types.specs.declared.op.Leaf.{Leaf};
 ghost use Rattle.op_types.specs.declared.op.Op.{Op};
-ghost use Rattle.op_types.specs.Kinds.{changed_user};
 ghost use Rattle.op_types.specs.Spelling.{IsLeaf};
 ghost use Rattle.std.specs.List.{AllByRecursion};
-ghost use Rattle.std.specs.Prelude.{◌≡◌, ◌+◌, ◌<◌, ◌≤◌, ◌↔◌, ◌++◌, ◌∷◌, [], ℕ, List, None, Option, Some, length, option_and_then, slice_get, take};
-ghost use Rattle.fr_bytes.specs.Bytes.{Text};
+ghost use Rattle.std.specs.Prelude.{◌≡◌, ◌+◌, ◌<◌, ◌≤◌, ◌↔◌, ◌++◌, ◌∷◌, [], ℕ, List, None, Option, Some, length, slice_get, take, true};
 ghost use Rattle.fr_digest.specs.Digest.{Digest};
-ghost use Rattle.tree_model.specs.AccessList.{FitsChange, IsRising, dict, entry_of};
+ghost use Rattle.tree_model.specs.AccessList.{FitsChange, IsRising, dict};
 ghost use Rattle.wall_law.specs.declared.state.State.{State};
 ghost use Rattle.wall_law.specs.Law.{law};
-ghost use Rattle.wall_law.specs.Lawful.{ComesNext, IsLawfulAt, Lawful, PositionPasses, told, told_of};
+ghost use Rattle.wall_law.specs.Lawful.{ComesNext, IsLawfulAt, Lawful, Told, told_of};
+ghost use Rattle.wall_law.specs.Position.{Finding, IsOf, PositionPasses, position_refusal};
 ghost use Rattle.wall_law.specs.State.{HasOwner, IsOnlyOwner, after, change_of, state_of};
 
 /// What holds of the state after any leaves: it is made leaf by leaf, its users rise, and its epoch is
@@ -31,15 +30,17 @@ pub fn histories()
         → Lawful d owner wall leaves → slice_get leaves k ≡ Some leaf → leaf.op.view.size ≤ k }
 {}
 
-/// What a check finds of one position, over the state's own entries and the digest of the list that the
-/// operation leaves, is that the position is lawful.
+/// Nothing stands in the way of a leaf exactly where it passes. Over the look-ups of a state's own entries, the digest
+/// of their list and the digest of the list that the operation leaves, a leaf that passes comes next in that state; and
+/// one that comes next, is signed and embeds a view of this history passes.
 pub fn positions()
-    ensures { (d : Digest) (s : State) (root_at : ℕ → Option Text) (list_after : Text) (wall k : ℕ) (leaf : Leaf)
-        → list_after ≡ dict d (after s leaf.op).entries
-        → PositionPasses (told_of d s) (entry_of s.entries leaf.op.author)
-        (option_and_then (λ (user : ℕ). entry_of s.entries user) (changed_user leaf.op.kind))
-        list_after root_at wall k leaf
-        → (law s wall k leaf.op ≡ None) × (told leaf ≡ told_of d (after s leaf.op)) }
+    ensures exactly { (before : Told) (wall k : ℕ) (leaf : Leaf) (f : Finding)
+        → (position_refusal before wall k leaf f ≡ None) ↔ PositionPasses before wall k leaf f }
+    ensures lawful { (d : Digest) (s : State) (wall k : ℕ) (leaf : Leaf) (f : Finding) → IsOf d s leaf.op f
+        → PositionPasses (told_of d s) wall k leaf f → ComesNext d s wall k leaf }
+    ensures passes { (d : Digest) (s : State) (wall k : ℕ) (leaf : Leaf) (f : Finding) → IsOf d s leaf.op f
+        → f.signed ≡ true → f.list ≡ dict d s.entries → f.seen ≡ true → ComesNext d s wall k leaf
+        → PositionPasses (told_of d s) wall k leaf f }
 {}
 
 /// Where the law has no refusal, the author is in the access list, an admitted user isn't, and a removed

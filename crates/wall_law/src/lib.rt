@@ -10,5 +10,5 @@ mod state;
 mod tests;
 
 pub use law::{judge_found, judge_op};
-pub use refusal::LawRefusal;
-pub use state::{State, follow, genesis, state_after};
+pub use refusal::{LawRefusal, PositionRefusal};
+pub use state::{State, epoch_after, follow, genesis, state_after};

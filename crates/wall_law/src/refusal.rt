@@ -29,3 +29,23 @@ pub enum LawRefusal {
     #[error("its view covers later operations")]
     LateView,
 }
+
+/// What stands in the way of the leaf at a position. The first that applies is told, in this order.
+#[derive(Clone, Copy, Debug, PartialEq, Eq, Error)]
+pub enum PositionRefusal {
+    /// Its author has no known key, or the signature isn't valid under it.
+    #[error("the author didn't sign the operation")]
+    BadAuthorSignature,
+    /// The access list that is shown isn't the one before the position, or hides what has to be looked up.
+    #[error("the access list that is shown isn't the one before it, or hides too much")]
+    BadDictProof,
+    /// The law refuses its operation.
+    #[error("the law refuses the operation: {0}")]
+    Unlawful(LawRefusal),
+    /// The view that its operation embeds isn't one of this history, or its signature isn't valid.
+    #[error("the view that it embeds isn't one of this history")]
+    BadView,
+    /// It tells another access list or epoch than those after its operation.
+    #[error("it tells another access list or epoch than it leaves")]
+    WrongAfter,
+}

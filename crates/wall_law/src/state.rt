@@ -62,8 +62,8 @@ fn entries_after(alloc: Global, entries: &Entries, op: &Op) -> Result<Vec<Entry>
     changed(alloc, list, &op.kind)
 }
 
-/// The epoch after an operation.
-fn epoch_after(epoch: u64, op: &Op) -> u64
+/// The epoch after an operation: a change begins the next one.
+pub fn epoch_after(epoch: u64, op: &Op) -> u64
     requires { epoch < 2 ^ 64 - 1 }
     ensures { result ≡ epoch_after epoch op.now }
 {
