@@ -1,5 +1,5 @@
 -- Pieces that are appended one after the other.
-use Rattle.std.proofs.Common.{◌≡◌, List, ℕ, ◌++◌, append_assoc}
+use Rattle.std.proofs.Common.{◌≡◌, ◌++◌, append_assoc}
 use Rattle.fr_bytes.specs.Bytes.{Text}
 
 pub joined3 : (out a b c : Text) → ((out ++ a) ++ b) ++ c ≡ out ++ (a ++ (b ++ c))

@@ -1,2 +1,2 @@
 mod Joining
-mod Spellings
+pub mod Spellings

@@ -5,11 +5,11 @@ use Rattle.std.specs.Int.{w32, w64}
 use Rattle.fr_bytes.specs.declared.refusals.ReadRefusal.{ReadRefusal}
 use Rattle.fr_bytes.specs.declared.refusals.ReadRefusal.TheVariants as refusals
 use Rattle.fr_bytes.specs.Bytes.{IsBytes, Text}
-use Rattle.fr_bytes.specs.Reading.{◌>>=◌, number_at, GivesAll, all_of}
+use Rattle.fr_bytes.specs.Reading.{number_at, GivesAll, all_of}
 use Rattle.fr_bytes.specs.Format.{Format, IsExact, format}
 use Rattle.fr_bytes.specs.Parts.{is_outside, number_within_at, number, number_within, byte_within, counted_bytes, both, times, HasTag}
 use Rattle.fr_bytes.proofs.Formats.{exact_u32, exact_u64, exact_counted, exact_both, exact_times, exact_as, bind_some, guard_some, some_is, all_found, all_again}
-use Rattle.std.proofs.lemmas.Bool.{ltb-false}
+use Rattle.std.proofs.lemmas.Bool.{le-ltb, lt-ltb, ltb-false, ltb-true}
 use Rattle.fr_bytes.proofs.Parts.{exact_byte_within, exact_number_within, exact_optional, exact_tagged}
 use Rattle.op_types.specs.declared.limits.TheConstants.{VIEW_SIZE_MAX}
 use Rattle.op_types.specs.declared.view.View.{View}
@@ -23,7 +23,7 @@ use Rattle.msg_form.specs.declared.message.Reply.{Reply}
 use Rattle.msg_form.specs.declared.message.Reply.TheVariants.{Show, Refused, KeyOps}
 use Rattle.msg_form.specs.Causes.{greatest_detail}
 use Rattle.msg_form.specs.Formats.{flag, flag_at, shown, look, append, keys, show, refused, key_ops}
-use Rattle.msg_form.specs.Messages.{IsRequest, request_tag, request_rest, request_text, SpellsRequest, look_at, append_at, keys_at, request_cases, request_behind_at, request_at, request_format, HasParts, reply_tag, reply_rest, reply_text, IsReply, SpellsReply, show_at, refused_at, key_ops_at, reply_cases, reply_behind_at, reply_at, reply_format}
+use Rattle.msg_form.specs.Messages.{IsRequest, request_tag, request_rest, SpellsRequest, look_at, append_at, keys_at, request_cases, request_behind_at, request_at, request_format, HasParts, reply_tag, reply_rest, SpellsReply, show_at, refused_at, key_ops_at, reply_cases, reply_behind_at, reply_at, reply_format, reply_of}
 
 -- ---- parts
 
@@ -240,3 +240,33 @@ request-one x y bytes hx hy = some_is x y (sym (request_again bytes x hx) ∙ re
 
 pub reply-one : (x y : Reply) (bytes : Text) → SpellsReply x bytes → SpellsReply y bytes → x ≡ y
 reply-one x y bytes hx hy = some_is x y (sym (reply_again bytes x hx) ∙ reply_again bytes y hy)
+
+-- ---- what the bytes of a reply spell
+
+short-read : (bytes : Text) → length bytes ≤ 33554432 → reply_of bytes ≡ all_of reply_at bytes
+unfolding reply_of
+short-read bytes short = ap (λ (b : Bool). cond b None (all_of reply_at bytes)) (le-ltb 33554432 (length bytes) short)
+
+long-read : (bytes : Text) → 33554432 < length bytes → reply_of bytes ≡ None
+unfolding reply_of
+long-read bytes long = ap (λ (b : Bool). cond b None (all_of reply_at bytes)) (lt-ltb 33554432 (length bytes) long)
+
+pub reply-gives : (bytes : Text) (result : Result Reply ReadRefusal) → length bytes ≤ 33554432
+    → GivesAll (λ (x : Reply). x) result (all_of reply_at bytes) → GivesAll (λ (x : Reply). x) result (reply_of bytes)
+reply-gives bytes result short read = subst (GivesAll (λ (x : Reply). x) result) (sym (short-read bytes short)) read
+
+pub reply-too-long : (bytes : Text) → 33554432 < length bytes → reply_of bytes ≡ None
+reply-too-long bytes long = long-read bytes long
+
+pub reply-spelled : (reply : Reply) (bytes : Text) → IsBytes bytes → reply_of bytes ≡ Some reply → SpellsReply reply bytes
+reply-spelled reply bytes are e = by (nat_lt 33554432 (length bytes)) refl
+  where
+    by : (b : Bool) → nat_lt 33554432 (length bytes) ≡ b → SpellsReply reply bytes
+    by true long = absurd (let none = long-read bytes (ltb-true 33554432 (length bytes) long) in cc)
+    by false short =
+        reply_found bytes (Ok reply) are (ltb-false 33554432 (length bytes) short)
+        (sym (short-read bytes (ltb-false 33554432 (length bytes) short)) ∙ e)
+
+pub reply-read : (reply : Reply) (bytes : Text) → SpellsReply reply bytes → reply_of bytes ≡ Some reply
+reply-read reply bytes h =
+    short-read bytes (subst (λ (x : Text). length x ≤ 33554432) (sym h.text) h.is_reply.short) ∙ reply_again bytes reply h

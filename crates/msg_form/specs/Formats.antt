@@ -1,5 +1,5 @@
 -- What stands behind the tag of each message, as one format each.
-use Rattle.std.specs.Prelude.{ℕ, ◌-◌, Bool, true, false, List, [], ◌∷◌, nat_lt, ◌==◌, if◌then◌else◌}
+use Rattle.std.specs.Prelude.{ℕ, ◌-◌, Bool, List, [], ◌∷◌, nat_lt, ◌==◌, if◌then◌else◌}
 use Rattle.std.specs.Int.{w32, w64}
 use Rattle.fr_bytes.specs.Bytes.{Text}
 use Rattle.fr_bytes.specs.Reading.{Reader, as_at}

@@ -1,8 +1,8 @@
 -- The one spelling of each request and each reply.
-use Rattle.std.specs.Prelude.{◌≡◌, ℕ, ◌-◌, ◌≤◌, List, [], ◌∷◌, ◌++◌, length}
+use Rattle.std.specs.Prelude.{◌≡◌, ℕ, ◌-◌, ◌≤◌, List, [], ◌∷◌, ◌++◌, length, Option, None, nat_lt, if◌then◌else◌}
 use Rattle.std.specs.Int.{w32, w64, to_be_bytes}
 use Rattle.fr_bytes.specs.Bytes.{Text, counted}
-use Rattle.fr_bytes.specs.Reading.{Reader, as_at}
+use Rattle.fr_bytes.specs.Reading.{Reader, all_of, as_at}
 use Rattle.fr_bytes.specs.Format.{Format, format}
 use Rattle.fr_bytes.specs.Parts.{tagged_at, one_of}
 use Rattle.op_types.specs.Spelling.{view_text}
@@ -114,3 +114,7 @@ reply_at = tagged_at reply_behind_at
 
 abbrev pub reply_format : Format Reply
 reply_format = format HasParts reply_text reply_at
+
+-- the reply that bytes spell, which are no more than a reply may have
+unfoldable pub reply_of : Text → Option Reply
+reply_of bytes = if nat_lt REPLY_BYTES_MAX (length bytes) then None else all_of reply_at bytes

@@ -1,7 +1,7 @@
 ghost use Rattle.std.specs.Prelude.{◌≡◌, ◌<◌, ◌-◌, IfOk, IsErrOf};
 ghost use Rattle.fr_bytes.specs.Reading.{Gives, GivesAll, all_of, counted_at, times_at};
 ghost use Rattle.msg_form.specs.Formats.{flag_at, shown};
-ghost use Rattle.msg_form.specs.Messages.{SpellsReply, SpellsRequest, append_at, key_ops_at, keys_at, look_at, refused_at, reply_at, reply_behind_at, request_at, request_behind_at, show_at};
+ghost use Rattle.msg_form.specs.Messages.{SpellsReply, SpellsRequest, append_at, key_ops_at, keys_at, look_at, refused_at, reply_at, reply_behind_at, reply_of, request_at, request_behind_at, show_at};
 ghost use Rattle.msg_form.specs.declared.message.Reply.{Reply};
 ghost use Rattle.msg_form.specs.declared.message.Request.{Request};
 
@@ -213,6 +213,7 @@ fn whole_reply(alloc: Global, bytes: &[u8]) -> Result<Reply, ReadRefusal>
 pub fn read_reply(alloc: Global, bytes: &[u8]) -> Result<Reply, ReadRefusal>
     ensures found { IfOk result (λ reply. SpellsReply reply bytes.now) }
     ensures not_form { IsErrOf result ReadRefusal.NotForm → (reply : Reply) → SpellsReply reply bytes.now → ⊥ }
+    ensures exact { GivesAll (λ x. x) result (reply_of bytes.now) }
 {
     if bytes.len() > REPLY_BYTES_MAX {
         return Err(ReadRefusal::NotForm);

@@ -97,4 +97,5 @@ fn longer_replies_are_none(rt: HostRuntime) -> Result<(), Fail> {
 fn laws_are_called() {
     laws::one_spelling_of_requests();
     laws::one_spelling_of_replies();
+    laws::replies();
 }

@@ -1,2 +1,3 @@
 mod Counts
 mod Points
+pub mod Outsiders

@@ -29,4 +29,5 @@ fn the_point_is_the_greatest_that_is_vouched_for(rt: HostRuntime) -> Result<(), 
 #[test]
 fn laws_are_called() {
     laws::points();
+    laws::outsiders();
 }
