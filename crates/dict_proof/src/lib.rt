@@ -5,6 +5,7 @@
 
 mod change;
 mod changes;
+mod copying;
 mod digests;
 mod joining;
 mod keeping;
@@ -21,6 +22,7 @@ mod writing;
 
 pub use change::{Change, DictEnd};
 pub use changes::apply;
+pub use copying::copy;
 pub use digests::digest;
 pub use keeping::keeps_author;
 pub use limits::LEVELS_MAX;

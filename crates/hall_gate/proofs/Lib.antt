@@ -5,6 +5,7 @@ pub mod Turning
 pub mod Seating
 pub mod SeatLaws
 pub mod Opening
+pub mod Places
 pub mod Dealing
 pub mod Closing
 pub mod Gathering

@@ -1,6 +1,6 @@
 //! Entries of calls, each in memory that came with it.
-ghost use Rattle.std.specs.Prelude.{◌≡◌, ◌++◌, ◌∷◌, [], None};
-ghost use Rattle.std.specs.Option.{option_to_list};
+ghost use Rattle.std.specs.Prelude.{◌≡◌, ◌++◌, ◌∷◌, [], IfSome, None, slice_get};
+ghost use Rattle.std.specs.Option.{option_copied, option_to_list};
 
 use fr_bytes::NoMemory;
 use std::alloc::Global;
@@ -88,6 +88,39 @@ impl<E: Drop> Calls<E> {
                 *self = Box::into_inner(before);
                 Some(entry)
             }
+        }
+    }
+
+    /// The entry at place `i`, counted from 0, and `None` exactly where there is none. It goes over the entries from
+    /// the newest on. Takes no memory.
+    pub fn get(&self, i: u64) -> Option<&E>
+        ensures { option_copied result ≡ slice_get self.now i }
+    {
+        // `at` keeps `i` entries more than `first`.
+        let mut first = self;
+        for _ in 0..i {
+            let (_, before) = first.parts()?;
+            first = before;
+        }
+        let mut at = self;
+        let mut found = None;
+        while let Some((_, before)) = first.parts() {
+            let (entry, earlier) = at.parts()?;
+            found = Some(entry);
+            first = before;
+            at = earlier;
+        }
+        found
+    }
+
+    /// The newest entry, and the entries before it.
+    fn parts(&self) -> Option<(&E, &Calls<E>)>
+        ensures none { result ≡ None → self.now ≡ [] }
+        ensures parts { IfSome result (λ p. self.now ≡ p.1.now ++ p.0.now ∷ []) }
+    {
+        match &self.last {
+            Link::End => None,
+            Link::After(entry, before) => Some((entry, before)),
         }
     }
 

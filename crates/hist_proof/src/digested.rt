@@ -70,6 +70,13 @@ impl<D: Digester> DigestedTree<D> {
         &self.pruned
     }
 
+    /// The tree, and its digests no more.
+    pub fn into_tree(self) -> Pruned
+        ensures { tree_view result ≡ self.tree }
+    {
+        self.pruned
+    }
+
     /// How many leaves the tree has, shown or not.
     pub fn size(&self) -> u64
         ensures { result ≡ self.now.size }
