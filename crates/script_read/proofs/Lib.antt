@@ -2,3 +2,11 @@ pub mod Steps
 pub mod Lists
 pub mod Json
 pub mod Sums
+pub mod Holding
+pub mod Added
+pub mod Tables
+pub mod CommandRanges
+pub mod PhaseRanges
+pub mod LineRanges
+pub mod ListedNumbers
+pub mod WholeScript

@@ -1,6 +1,5 @@
 -- Steps that refuse: what was refused stays refused.
-use Rattle.std.proofs.Common.{◌≡◌, ℕ, List, Result, Ok, Err, refl, sym, ◌∙◌}
-use Rattle.std.specs.Prelude.{⊤}
+use Rattle.std.proofs.Common.{◌≡◌, Err, refl}
 use Rattle.script_read.specs.declared.refusal.ScriptRefusal.{ScriptRefusal}
 use Rattle.script_read.specs.declared.refusal.ScriptRefusal.TheVariants as refusals
 use Rattle.script_read.specs.Refusal.{Checked, ◌>>=◌, Gives, Tells}

@@ -1,13 +1,13 @@
 -- The keys of an object: each is required, and its value is of one kind.
-use Rattle.std.specs.Prelude.{ℕ, List, [], ◌∷◌, length, Bool, ◌&&◌, nat_lt, nat_le, if◌then◌else◌, ⊤, codes, Option, Some, None, Ok, Err, option_and_then}
+use Rattle.std.specs.Prelude.{ℕ, List, [], ◌∷◌, length, Bool, ◌&&◌, nat_lt, nat_le, if◌then◌else◌, ⊤, codes, Option, Some, None, Ok, option_and_then}
 use Rattle.std.specs.Option.{option_map, unwrap_or}
 use Rattle.std.specs.Result.{result_ok}
 use Rattle.std.specs.List.{list_all}
 use Rattle.std.specs.Str.{bytes_eq}
 use Rattle.hex.specs.Hex.{decode_of, decode_sized}
-use Rattle.serde_json.specs.Data.{Data, array, object, Items, Members}
+use Rattle.serde_json.specs.Data.{Data, object, Items}
 use Rattle.serde_json.specs.Events.{items_len, members_len}
-use Rattle.serde_json.specs.Find.{get, as_number, as_u64, as_bool, as_str, as_array, as_object}
+use Rattle.serde_json.specs.Find.{get, as_number, as_u64, as_str, as_array, as_object}
 use Rattle.script_read.specs.declared.refusal.ScriptRefusal.TheVariants.{Field, Limit}
 use Rattle.script_read.specs.Refusal.{Checked, ◌>>=◌, found, refused}
 

@@ -10,3 +10,4 @@ pub mod Script
 pub mod Known
 pub mod Writes
 pub mod Reading
+pub mod Limits

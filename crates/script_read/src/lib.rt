@@ -5,6 +5,7 @@
 mod commands;
 mod elements;
 mod known;
+mod limits;
 mod object;
 mod phases;
 mod printable;
@@ -16,6 +17,7 @@ mod users;
 mod walls;
 mod writes;
 
+pub use limits::limits_law;
 pub use printable::is_printable_text;
 pub use refusal::{Listed, ScriptRefusal};
 pub use script::{
