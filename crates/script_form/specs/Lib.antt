@@ -1,0 +1,5 @@
+pub mod Refused
+pub mod Status
+pub mod Report
+pub mod Summary
+pub mod Generated
