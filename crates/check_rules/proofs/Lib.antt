@@ -1,0 +1,5 @@
+pub mod Acceptances
+pub mod Positions
+pub mod Present
+pub mod Takings
+pub mod Tests

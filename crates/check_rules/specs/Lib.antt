@@ -1,0 +1,5 @@
+pub mod Accepted
+pub mod Heard
+pub mod Shown
+pub mod Takes
+pub mod Verdict
