@@ -1,0 +1,4 @@
+pub mod Late
+pub mod ListReading
+pub mod PositionRows
+pub mod Unfitting
