@@ -1,0 +1,2 @@
+pub mod HonestNews
+pub mod HonestReply
