@@ -1,0 +1,5 @@
+pub mod Comparisons
+pub mod Ready
+pub mod Sound
+pub mod Story
+pub mod Truth
