@@ -5,20 +5,13 @@
 # 1,024 takes above 1.2 times its verifications, or where a run tells less. Run it at the top of the repository; the word
 # is how many runs there are.
 set -e
+. bench/median.sh
 runs=${1:-11}
 cd crates/check_bench
 echo "building the benchmark" >&2
 rt run >/dev/null
 for posts in 64 1024; do
-    for _ in $(seq "$runs"); do ./out/check_bench "$posts" times || echo "the program failed"; done | awk -v runs="$runs" -v posts="$posts" '
-        function median(list, n,   i, j, held) {
-            for (i = 2; i <= n; i++) {
-                held = list[i]
-                for (j = i - 1; j > 0 && list[j] > held; j--) list[j + 1] = list[j]
-                list[j + 1] = held
-            }
-            return list[int((n + 1) / 2)]
-        }
+    for _ in $(seq "$runs"); do ./out/check_bench "$posts" times || echo "the program failed"; done | awk -v runs="$runs" -v posts="$posts" "$median"'
         $1 == "taken" && $2 == posts && $4 == 2 * posts - 1 { whole++ }
         $1 == "check" { ratio[++n] = $2 / $4 }
         END {

@@ -5,20 +5,15 @@
 # missing. Of several runs the median is told, since a machine's speed changes from one moment to the next. Run it
 # at the top of the repository; the word is how many runs there are.
 set -e
+. bench/median.sh
 runs=${1:-3}
 cd crates/lock_bench
 echo "building the benchmark" >&2
 rt run >/dev/null
-for _ in $(seq "$runs"); do ./out/lock_bench times || echo "the program failed"; done | awk -v runs="$runs" '
-    function median(key,   i, j, n, held, list) {
-        n = seen[key]
-        for (i = 1; i <= n; i++) list[i] = told[key, i]
-        for (i = 2; i <= n; i++) {
-            held = list[i]
-            for (j = i - 1; j > 0 && list[j] > held; j--) list[j + 1] = list[j]
-            list[j + 1] = held
-        }
-        return list[int((n + 1) / 2)]
+for _ in $(seq "$runs"); do ./out/lock_bench times || echo "the program failed"; done | awk -v runs="$runs" "$median"'
+    function usual(key,   i, list) {
+        for (i = 1; i <= seen[key]; i++) list[i] = told[key, i]
+        return median(list, seen[key])
     }
     NF != 6 || ($1 != "short" && $1 != "work") || ($3 != "gate" && $3 != "mutex") { print "unexpected: " $0; bad = 1; next }
     $4 != $2 * ($1 == "short" ? 20000 : 200) { print "calls are missing: " $0; bad = 1 }
@@ -33,8 +28,8 @@ for _ in $(seq "$runs"); do ./out/lock_bench times || echo "the program failed";
         for (k = 1; k <= 2; k++) for (threads = 2; threads <= 16; threads *= 2) {
             key = kinds[k] " " threads
             if (seen[key " gate"] != runs || seen[key " mutex"] != runs) { print "lines are missing: " key; bad = 1; continue }
-            time = median(key " gate time"); other = median(key " mutex time")
-            processor = median(key " gate processor"); others = median(key " mutex processor")
+            time = usual(key " gate time"); other = usual(key " mutex time")
+            processor = usual(key " gate processor"); others = usual(key " mutex processor")
             printf "%-5s %2d threads: lock %8.1f ms, Mutex %8.1f ms, %6.2f times; processor %8.1f ms, %8.1f ms, %6.2f times\n",
                 kinds[k], threads, time, other, time / other, processor, others, processor / others
             if (kinds[k] == "work" && (time > 3 * other || processor > 2 * others)) { print "above the limit: " key; bad = 1 }

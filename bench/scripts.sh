@@ -5,19 +5,12 @@
 # takes, where a byte of the longer report takes above 1.5 times what one of the shorter takes, or where a run tells
 # less. Run it at the top of the repository; the word is how many runs there are.
 set -e
+. bench/median.sh
 runs=${1:-21}
 cd crates/script_bench
 echo "building the benchmark" >&2
 rt run >/dev/null
-for _ in $(seq "$runs"); do ./out/script_bench times || echo "the program failed"; done | awk -v runs="$runs" '
-    function median(list, n,   i, j, held) {
-        for (i = 2; i <= n; i++) {
-            held = list[i]
-            for (j = i - 1; j > 0 && list[j] > held; j--) list[j + 1] = list[j]
-            list[j + 1] = held
-        }
-        return list[int((n + 1) / 2)]
-    }
+for _ in $(seq "$runs"); do ./out/script_bench times || echo "the program failed"; done | awk -v runs="$runs" "$median"'
     $1 == "script" && $2 == "bytes" && $3 == 4194304 { whole++ }
     $1 == "reports" && $2 == "bytes" { half = $3; all = $4 }
     $1 == "json" { json = $3 }

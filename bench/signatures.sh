@@ -7,6 +7,7 @@
 # invalid or doesn't print all its times. Run it at the top of the repository; the words are how many
 # signatures a run makes and how many runs there are.
 set -e
+. bench/median.sh
 count=${1:-500}
 runs=${2:-21}
 cd crates/signature_bench
@@ -20,15 +21,7 @@ for run in $(seq "$runs"); do
         exit 1
     }
 done
-awk -v most=1.08 -v runs="$runs" '
-    function median(list, n,   i, j, held) {
-        for (i = 2; i <= n; i++) {
-            held = list[i]
-            for (j = i - 1; j > 0 && list[j] > held; j--) list[j + 1] = list[j]
-            list[j + 1] = held
-        }
-        return list[int((n + 1) / 2)]
-    }
+awk -v most=1.08 -v runs="$runs" "$median"'
     $1 == "digest" && $3 == "valid" && $4 == "true" { valid++ }
     $1 == "compressions" { n++; one = $4 / $2; ones[n] = one }
     $1 == "key" { keys[++made] = $3 / (1097728 * one) }

@@ -4,22 +4,18 @@
 # whole tree's digests, in the median of the runs, or where a run tells less. Run it at the top of the repository; the
 # word is how many runs there are.
 set -e
+. bench/median.sh
 runs=${1:-21}
 cd crates/version_bench
 echo "building the benchmark" >&2
 rt run >/dev/null
-for _ in $(seq "$runs"); do ./out/version_bench times || echo "the program failed"; done | awk -v runs="$runs" '
+for _ in $(seq "$runs"); do ./out/version_bench times || echo "the program failed"; done | awk -v runs="$runs" "$median"'
     $1 == "roots" && $2 == 1024 { whole++ }
     $1 == "tree" { tree = $3; made++ }
     $1 == "versions" { times[++n] = (tree + $3) / tree }
     END {
         if (whole != runs || made != runs || n != runs) { print "a run did not tell its times"; exit 1 }
-        for (i = 2; i <= n; i++) {
-            held = times[i]
-            for (j = i - 1; j > 0 && times[j] > held; j--) times[j + 1] = times[j]
-            times[j + 1] = held
-        }
-        median = times[int((n + 1) / 2)]
-        printf "%d runs: the tree and the roots of its versions take %.3f of the tree\n", n, median
-        exit (median > 1.3)
+        both = median(times, n)
+        printf "%d runs: the tree and the roots of its versions take %.3f of the tree\n", n, both
+        exit (both > 1.3)
     }'
