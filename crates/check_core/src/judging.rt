@@ -146,6 +146,7 @@ fn judge_later<D: Digester>(
     requires holds { holds_leaves tree.tree ≡ true }
     requires front { before.now ≡ leaves_among tree.tree tree.size 0 from }
     requires behind { leaves.items ≡ leaves_from tree.tree tree.size from }
+    requires before { AllByRecursion IsLeaf before.now }
     requires spelled { AllByRecursion IsLeaf leaves.items }
     requires within { from + length leaves.items ≤ view.size }
     ensures { IfOk result (λ j. result_view checked_view j ≡ judged_later D.digest_of known.now asked.now view

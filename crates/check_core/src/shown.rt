@@ -38,6 +38,7 @@ pub(crate) fn split_leaves<D: Digester>(
     requires few { tree.now.size < 2 ^ 32 }
     ensures before { IfOk result (λ behind. leaves.new.items ≡ leaves_among tree.now.tree tree.now.size 0 from) }
     ensures behind { IfOk result (λ behind. behind.items ≡ leaves_from tree.now.tree tree.now.size from) }
+    ensures front { IfOk result (λ behind. AllByRecursion IsLeaf leaves.new.items) }
     ensures spelled { IfOk result (λ behind. AllByRecursion IsLeaf behind.items) }
     ensures few { IfOk result (λ behind. from + length behind.items ≤ tree.now.size) }
 {

@@ -1,7 +1,6 @@
 ghost use Rattle.std.specs.Prelude.{◌≤◌};
 
-use crate::node_keys::NodeKey;
-use fr_bytes::Sequence;
+use crate::node_keys::NodeKeys;
 use fr_digest::Dig;
 use std::collections::BTreeMap;
 
@@ -18,7 +17,7 @@ pub struct KeyBook {
     leaf: Dig,
     slot: Option<u8>,
     // By generation, the keys of that generation, each node once.
-    keys: BTreeMap<u32, Sequence<NodeKey>>,
+    keys: BTreeMap<u32, NodeKeys>,
     epochs: Vec<u32>,
     ghost levels: { (1 ≤ depth) × (depth ≤ 6) },
 }

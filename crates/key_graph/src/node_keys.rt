@@ -6,10 +6,12 @@ ghost use Rattle.key_graph.specs.NodeKeys.{key_in};
 ghost use Rattle.pad_wrap.specs.Pad.{padded};
 ghost use Rattle.std.specs.Prelude.{◌≡◌, ◌/◌, ℕ, nat_eq, if◌then◌else◌, OnOk};
 
-use fr_bytes::NoMemory;
+use fr_bytes::{NoMemory, Sequence};
 use fr_digest::Dig;
 use op_types::{Kind, Wrap};
 use pad_wrap::unwrap32;
+use std::alloc::AllocError;
+use std::marker::Model;
 
 /// The key of an inner node, in the generation under which a book keeps it.
 #[derive(Clone, Copy, Debug, PartialEq, Eq)]
@@ -18,6 +20,48 @@ pub struct NodeKey {
     pub node: u32,
     /// Its key.
     pub key: Dig,
+}
+
+/// The keys of one generation.
+#[derive(Debug, Drop)]
+pub struct NodeKeys {
+    keys: Sequence<NodeKey>,
+}
+
+impl Model for NodeKeys {
+    ghost use Rattle.key_graph.specs.declared.node_keys.NodeKey.{NodeKey};
+    ghost use Rattle.std.specs.Prelude.{List};
+
+    ghost Value = { List NodeKey };
+
+    ghost view = { λ k. k.keys };
+}
+
+impl NodeKeys {
+    pub fn of(keys: Vec<NodeKey>) -> NodeKeys
+        ensures { result ≡ keys.items }
+    {
+        NodeKeys {
+            keys: Sequence::of(keys),
+        }
+    }
+
+    pub fn as_slice(&self) -> &[NodeKey]
+        ensures { result.now ≡ self.now }
+    {
+        self.keys.as_slice()
+    }
+}
+
+impl Clone for NodeKeys {
+    ghost is_clone = { λ x y. y ≡ x };
+
+    fn clone(&self) -> Result<NodeKeys, AllocError> {
+        match self.keys.copy() {
+            Ok(keys) => Ok(NodeKeys { keys }),
+            Err(NoMemory) => Err(AllocError),
+        }
+    }
 }
 
 /// The node's key, where it is among these.

@@ -1,6 +1,6 @@
 ghost use Rattle.key_graph.specs.KeyTree.{followed_by, planned, tree_root};
 ghost use Rattle.key_graph.specs.declared.change.PlanRefusal.TheVariants as refusals;
-ghost use Rattle.std.specs.Prelude.{◌≡◌, ◌≢◌, ◌≤◌, [], IfErr, IfOk, OnErr};
+ghost use Rattle.std.specs.Prelude.{◌≡◌, ◌≢◌, ◌≤◌, [], length, IfErr, IfOk, OnErr};
 
 use crate::change::{Change, KeyChange, PlanRefusal, Setting};
 use crate::history::{fits, place, root_generation};
@@ -51,6 +51,42 @@ impl KeyTree {
             followed: Vec::new(alloc),
             epochs: Vec::new(alloc),
         })
+    }
+
+    /// The number of the wall. Takes no memory.
+    pub fn wall(&self) -> u32
+        ensures { result ≡ self.now.setting.wall }
+    {
+        self.setting.wall
+    }
+
+    /// The tree of the same wall without members. Takes no memory.
+    pub fn fresh(&self) -> KeyTree
+        ensures { result ≡ record { setting = self.now.setting; followed = []; epochs = [] } }
+    {
+        KeyTree {
+            setting: self.setting,
+            followed: Vec::new(*self.followed.allocator()),
+            epochs: Vec::new(*self.epochs.allocator()),
+        }
+    }
+
+    /// The same tree, in memory of the same allocator.
+    pub fn copy(&self) -> Result<KeyTree, NoMemory>
+        ensures { IfOk result (λ same. same ≡ self.now) }
+    {
+        Ok(KeyTree {
+            setting: self.setting,
+            followed: Vec::from_slice(*self.followed.allocator(), self.followed.as_slice())?,
+            epochs: Vec::from_slice(*self.epochs.allocator(), self.epochs.as_slice())?,
+        })
+    }
+
+    /// How many changes were followed, those that don't fit included. Takes no memory.
+    pub fn changes(&self) -> u64
+        ensures { result ≡ length self.now.epochs }
+    {
+        self.epochs.len() as u64
     }
 
     /// The slot that `change` takes or frees in the generation `gen_`, and its wraps: for each ancestor of the slot,

@@ -111,6 +111,13 @@ impl Signer {
         leaves_of(self.pair.lms.h) - self.used
     }
 
+    /// How many bytes each signature has. Takes no memory.
+    pub fn signature_len(&self) -> usize
+        ensures { result ≡ 8 + self.now.pair.ots.sig_len + 32 * self.now.pair.lms.h }
+    {
+        self.pair.sig_len()
+    }
+
     /// The signature of `message` by the next leaf, which is then used.
     ///
     /// # Errors

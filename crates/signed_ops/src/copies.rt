@@ -1,8 +1,9 @@
-//! Copies of operations, leaves and views, each in memory of the same allocators.
+//! Copies of operations, leaves and views, in memory of the same allocators but for lists of them.
 ghost use Rattle.std.specs.Prelude.{◌≡◌, IfOk};
 
-use fr_bytes::NoMemory;
-use op_types::{Kind, Leaf, Op, View};
+use fr_bytes::{NoMemory, Sequence};
+use op_types::{Kind, Leaf, Leaves, Op, View};
+use std::alloc::Global;
 
 /// The same view.
 pub fn view_copy(view: &View) -> Result<View, NoMemory>
@@ -65,4 +66,15 @@ pub fn leaf_copy(leaf: &Leaf) -> Result<Leaf, NoMemory>
         epoch: leaf.epoch,
         op: op_copy(&leaf.op)?,
     })
+}
+
+/// The same leaves, in order.
+pub fn leaves_copy(alloc: Global, leaves: &[Leaf]) -> Result<Leaves, NoMemory>
+    ensures { IfOk result (λ same. same ≡ leaves.now) }
+{
+    let mut same = Vec::new(alloc);
+    for leaf in leaves {
+        same.push(leaf_copy(leaf)?)?;
+    }
+    Ok(Sequence::of(same))
 }

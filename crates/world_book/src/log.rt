@@ -1,4 +1,4 @@
-ghost use Rattle.std.specs.Prelude.{◌≡◌, [], ◌∷◌, ◌++◌, length, OnOk, OnErr};
+ghost use Rattle.std.specs.Prelude.{◌≡◌, [], ◌∷◌, ◌++◌, List, length, OnOk, OnErr};
 
 use fr_bytes::NoMemory;
 use std::alloc::Global;
@@ -58,5 +58,22 @@ impl<T: Drop> Log<T> {
     {
         self.items.push(value)?;
         Ok(())
+    }
+
+    /// Takes the last value away, if there is one.
+    pub fn drop_last(&mut self)
+        ensures { (front : List T) (last : T) → self.old ≡ front ++ last ∷ [] → self.new ≡ front }
+    {
+        self.items.pop();
+    }
+
+    /// Puts a value in the place of the last, if there is one. Takes no memory.
+    pub fn replace_last(&mut self, value: T)
+        ensures { (front : List T) (last : T) → self.old ≡ front ++ last ∷ [] → self.new ≡ front ++ value ∷ [] }
+    {
+        let count = self.items.len();
+        if count > 0 {
+            self.items[count - 1] = value;
+        }
     }
 }

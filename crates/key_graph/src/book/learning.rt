@@ -2,12 +2,12 @@ ghost use Rattle.key_graph.specs.Held.{book_of, in_place};
 ghost use Rattle.key_graph.specs.NodeKeys.{key_in};
 ghost use Rattle.key_graph.specs.KeyBook.{book_root, child_key, learnt, new_book, opened_all, slot_after};
 ghost use Rattle.op_types.specs.Kinds.{is_change};
-ghost use Rattle.std.specs.Prelude.{◌≡◌, ◌≤◌, ℕ, true, IfOk, OnErr, OnOk};
+ghost use Rattle.std.specs.Prelude.{◌≡◌, ◌≤◌, ℕ, length, true, IfOk, OnErr, OnOk};
 
 use super::KeyBook;
 use crate::history::{root_generation, slots};
-use crate::node_keys::{NodeKey, find_key, is_slot, put_key, wraps_in};
-use fr_bytes::{NoMemory, Sequence};
+use crate::node_keys::{NodeKey, NodeKeys, find_key, is_slot, put_key, wraps_in};
+use fr_bytes::NoMemory;
 use fr_digest::Dig;
 use op_types::{Kind, Wrap};
 use std::alloc::Global;
@@ -35,6 +35,43 @@ impl KeyBook {
             keys: BTreeMap::new(alloc),
             epochs: Vec::new(alloc),
         })
+    }
+
+    /// The book of the same user who learnt nothing yet. Takes no memory.
+    pub fn fresh(&self) -> KeyBook
+        ensures { book_of result ≡ new_book self.now.wall self.now.depth self.now.user self.now.leaf }
+    {
+        KeyBook {
+            wall: self.wall,
+            depth: self.depth,
+            user: self.user,
+            leaf: self.leaf,
+            slot: None,
+            keys: BTreeMap::new(*self.epochs.allocator()),
+            epochs: Vec::new(*self.epochs.allocator()),
+        }
+    }
+
+    /// The same book, in memory of the same allocator.
+    pub fn copy(&self) -> Result<KeyBook, NoMemory>
+        ensures { IfOk result (λ same. book_of same ≡ book_of self.now) }
+    {
+        Ok(KeyBook {
+            wall: self.wall,
+            depth: self.depth,
+            user: self.user,
+            leaf: self.leaf,
+            slot: self.slot,
+            keys: self.keys.clone()?,
+            epochs: Vec::from_slice(*self.epochs.allocator(), self.epochs.as_slice())?,
+        })
+    }
+
+    /// How many changes were learnt. Takes no memory.
+    pub fn changes(&self) -> u64
+        ensures { result ≡ length (book_of self.now).epochs }
+    {
+        self.epochs.len() as u64
     }
 
     // The keys that are held of a generation.
@@ -109,7 +146,7 @@ impl KeyBook {
         let slot = self.slot_after(kind);
         let fresh = self.opened(slot, gen_, wraps_in(kind))?;
         self.epochs.push(gen_)?;
-        match self.keys.insert(gen_, Sequence::of(fresh)) {
+        match self.keys.insert(gen_, NodeKeys::of(fresh)) {
             Ok(_old) => {
                 self.slot = slot;
                 Ok(())
