@@ -1,6 +1,7 @@
 //! Checks a reply that shows so many posts from the first on, each of which embeds the view of the ones before it, and
-//! prints how many leaves the client takes. With a second word, `times`, it prints nanoseconds too: of the check, and of
-//! the verifications alone that it makes, one of each operation's signature and one of each view's.
+//! prints how many leaves the client takes. With a second word, `times`, it prints nanoseconds too: of the check, of the
+//! verifications alone that it makes, one of each operation's signature and one of each view's, and of counting who
+//! vouches among so many operations of as many users.
 #![tactic(auto)]
 
 ghost use Rattle.std.specs.Prelude.{◌≤◌, IfOk};
@@ -14,6 +15,7 @@ use op_types::read_op;
 use signed_ops::{is_author_signed, is_view_signed};
 use std::alloc::Global;
 use std::time::Instant;
+use vouch_rule::{Vouch, vouchers};
 
 mod made;
 
@@ -91,6 +93,21 @@ fn time_verifications(rt: &HostRuntime, alloc: Global, made: &Made) -> Result<(u
     Ok((valid, time))
 }
 
+/// How many vouch among so many operations of as many users, all of whom do, and the nanoseconds of their count: this is
+/// where the count takes longest.
+fn time_vouchers(rt: &HostRuntime, alloc: Global, count: u32) -> Result<(u32, u128)> {
+    let mut ops = Vec::new(alloc);
+    for author in 0..count {
+        ops.push(Vouch { author, size: 1 })?;
+    }
+    if ops.len() > MOST as usize {
+        return Err(anyhow::Error::msg("too many operations"));
+    }
+    let begin = Instant::now(rt)?;
+    let found = vouchers(&ops, 1);
+    Ok((found, begin.elapsed(rt)?.as_nanos()))
+}
+
 /// How many posts the first word says, and whether there is a second one.
 fn words(rt: &HostRuntime, alloc: Global) -> Result<(u32, bool)> {
     let words: Vec<String> = std::env::args(rt)?.collect(alloc)?;
@@ -109,7 +126,8 @@ fn main(rt: HostRuntime) -> Result<()> {
     let (valid, verifications) = time_verifications(&rt, alloc, &made)?;
     println!(rt; "taken {taken} valid {valid}")?;
     if times {
-        println!(rt; "check {check} verifications {verifications}")?;
+        let (found, vouching) = time_vouchers(&rt, alloc, count)?;
+        println!(rt; "check {check} verifications {verifications} vouchers {found} in {vouching}")?;
     }
     Ok(())
 }
