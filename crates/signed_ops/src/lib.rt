@@ -11,7 +11,7 @@ mod signing;
 mod tests;
 mod views;
 
-pub use copies::{leaf_copy, op_copy, view_copy};
+pub use copies::{leaf_copy, leaves_copy, op_copy, view_copy};
 pub use keys::{is_author_signed, key_of};
 pub use known::Known;
 pub use signing::sign_op;
