@@ -1,5 +1,5 @@
 -- Lists of changes that are read from the oldest on, searches over slots, and the ancestors of a node.
-use Rattle.std.proofs.Common.{◌≡◌, ℕ, zero, suc, ◌+◌, ◌-◌, ◌*◌, ◌/◌, ◌^◌, ◌<◌, Bool, true, false, ◌||◌, ◌&&◌, List, [], ◌∷◌, ◌++◌, Option, Some, None, length, get_or, take, reverse, refl, ap, sym, ◌∙◌, subst, arith}
+use Rattle.std.proofs.Common.{◌≡◌, ℕ, zero, suc, ◌+◌, ◌-◌, ◌*◌, ◌/◌, ◌^◌, ◌<◌, ◌≤◌, Bool, true, false, ◌||◌, ◌&&◌, List, [], ◌∷◌, ◌++◌, Option, Some, None, length, get_or, take, reverse, refl, ap, sym, ◌∙◌, subst, arith}
 use Rattle.std.specs.Prelude.{if◌then◌else◌, nat_eq}
 use Rattle.std.specs.List.{filter_map, flat_map, cons_option, list_any}
 use Rattle.std.specs.Option.{option_to_list}
@@ -7,7 +7,7 @@ use Rattle.std.proofs.lemmas.List.{take_more, reverse-append}
 use Rattle.key_graph.specs.Slots.{any_below, least_below}
 use Rattle.std.proofs.lemmas.Bool.{lt-ltb}
 use Rattle.std.proofs.Common.{eq-eqb}
-use Rattle.std.proofs.Math.Nat.{pow-suc}
+use Rattle.std.proofs.Math.Nat.{pow-suc, one-le-pow}
 use Rattle.fr_bytes.specs.Bytes.{Text}
 use Rattle.key_graph.specs.declared.change.Setting.{Setting}
 use Rattle.key_graph.specs.declared.change.Change.{Change}
@@ -66,6 +66,12 @@ both_true p q = rw (p, q) refl
 pub pow_step : (k : ℕ) → 0 < k → 2 ^ k ≡ 2 * 2 ^ (k - 1)
 pow_step zero h = absurd (omega arith)
 pow_step (suc k) h = let e : suc k - 1 ≡ k = omega arith in rw (e, pow-suc 2 k) (omega arith)
+
+-- a node with a level above it isn't the root
+pub above_leaves : (k n : ℕ) → 0 < k → 2 ^ k ≤ n → 2 ≤ n
+above_leaves k n h big =
+    let one : 1 ≤ 2 ^ (k - 1) = one-le-pow (k - 1) 2 (omega arith) in
+    let step : 2 ^ k ≡ 2 * 2 ^ (k - 1) = pow_step k h in omega arith
 
 -- ---- keys and wraps
 

@@ -1,5 +1,7 @@
 ghost use Rattle.key_graph.specs.KeyTree.{followed_by, planned, tree_root};
 ghost use Rattle.key_graph.specs.declared.change.PlanRefusal.TheVariants as refusals;
+ghost use Rattle.op_types.specs.Spelling.{AreWraps};
+ghost use Rattle.op_types.specs.declared.limits.TheConstants.{SLOT_MAX};
 ghost use Rattle.std.specs.Prelude.{◌≡◌, ◌≢◌, ◌≤◌, [], length, IfErr, IfOk, OnErr};
 
 use crate::change::{Change, KeyChange, PlanRefusal, Setting};
@@ -92,13 +94,15 @@ impl KeyTree {
     /// The slot that `change` takes or frees in the generation `gen_`, and its wraps: for each ancestor of the slot,
     /// from the lowest up, and each of its children, left first, that has a member below it after the change, the
     /// ancestor's new key under the child's current key. These are at most two wraps a level. An admission takes the
-    /// least free slot, and a removal frees the user's.
+    /// least free slot, and a removal frees the user's. An operation with this slot and these wraps has a spelling.
     ///
     /// `AlreadyIn` comes for the admission of a member, `NotIn` for the removal of a user who is none, and `NoSlot`
     /// where every slot is taken. The tree stays as it is.
     #[tactic(auto, unfolding(crate::specs::KeyTree::planned))]
     pub fn plan(&self, gen_: u32, change: KeyChange) -> Result<(u8, Wraps), PlanRefusal>
         ensures planned { IfOk result (λ answer. planned self.now gen_ change ≡ Ok answer) }
+        ensures slot { IfOk result (λ answer. answer.0 ≤ SLOT_MAX) }
+        ensures wraps { IfOk result (λ answer. AreWraps answer.1) }
         ensures refused { IfErr result (λ refusal. refusal ≢ refusals.NoMemory → planned self.now gen_ change ≡ Err refusal) }
     {
         let slot = match place(self.setting.depth, self.followed.as_slice(), change) {

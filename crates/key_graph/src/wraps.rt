@@ -1,17 +1,18 @@
 // The wraps of a planned change.
 
-ghost use Rattle.key_graph.specs.KeyTree.{ancestors, generation, generation_at, inner_text, key_at, wrap_at, wraps_above, wraps_of};
+ghost use Rattle.key_graph.specs.KeyTree.{ancestors, generation, generation_at, inner_text, key_at, sealed, wrap_at, wraps_above, wraps_of};
 ghost use Rattle.op_types.specs.declared.kind.Wrap.{Wrap};
-ghost use Rattle.std.specs.List.{list_any};
+ghost use Rattle.op_types.specs.Spelling.{AreWraps, IsWrap};
+ghost use Rattle.std.specs.List.{AllByRecursion, list_any};
 ghost use Rattle.std.specs.Option.{option_to_list};
-ghost use Rattle.std.specs.Prelude.{◌≡◌, ◌+◌, ◌*◌, ◌/◌, ◌^◌, ◌<◌, ◌≤◌, ◌∷◌, ◌++◌, ℕ, IfOk, OnOk, nat_eq, reverse, true};
+ghost use Rattle.std.specs.Prelude.{◌≡◌, ◌+◌, ◌*◌, ◌/◌, ◌^◌, ◌<◌, ◌≤◌, ◌∷◌, ◌++◌, ℕ, IfOk, OnOk, length, nat_eq, reverse, true};
 
 use crate::change::{Change, Setting};
 use crate::history::{generation, has_member, holder, slots};
 use crate::keys::inner_key;
 use fr_bytes::NoMemory;
 use fr_digest::Dig;
-use op_types::Wrap;
+use op_types::{Wrap, laws};
 use pad_wrap::wrap32;
 use std::alloc::Global;
 
@@ -51,6 +52,31 @@ fn generation_at(depth: u8, changes: &[Change], node: u32) -> u32
     }
 }
 
+// The wrap of `new`, the new key of a child's parent, under the child's current key.
+fn sealed(
+    setting: &Setting,
+    changes: &[Change],
+    gen_: u32,
+    child: u32,
+    key: &Dig,
+    new: &Dig,
+) -> Wrap
+    requires depth { setting.now.depth ≤ 6 }
+    requires child { (2 ≤ child) × (child < 128) }
+    requires new { new.now ≡ inner_text setting.now.master setting.now.wall (child / 2) gen_ }
+    ensures value { result ≡ sealed setting.now (reverse changes.now) gen_ child key.now }
+    ensures spelled { IsWrap result }
+{
+    let stream = u64::from(child / 2) * 0x1_0000_0000 + u64::from(gen_);
+    let body = wrap32(key, stream, new);
+    laws::slices_of_bytes(&body);
+    Wrap {
+        child,
+        child_gen: generation_at(setting.depth, changes, child),
+        body,
+    }
+}
+
 // Puts the wrap of `new`, the new key of a child's parent, behind `out`, where the child has a key.
 #[tactic(auto, unfolding(crate::specs::KeyTree::wrap_at))]
 fn put_wrap(
@@ -63,20 +89,17 @@ fn put_wrap(
     out: &mut Vec<Wrap>,
 ) -> Result<(), NoMemory>
     requires depth { setting.now.depth ≤ 6 }
-    requires child { child < 128 }
+    requires child { (2 ≤ child) × (child < 128) }
     requires key { key.now ≡ key_at setting.now (reverse changes.now) child }
     requires new { new.now ≡ inner_text setting.now.master setting.now.wall (child / 2) gen_ }
-    ensures { OnOk result (out.new.items ≡ out.old.items ++ option_to_list (wrap_at setting.now (reverse changes.now) gen_ child)) }
+    ensures wraps { OnOk result (out.new.items ≡ out.old.items ++ option_to_list (wrap_at setting.now (reverse changes.now) gen_ child)) }
+    ensures few { OnOk result (length out.new.items ≤ length out.old.items + 1) }
+    ensures spelled { OnOk result (AllByRecursion IsWrap out.old.items → AllByRecursion IsWrap out.new.items) }
 {
     let Some(key) = key else {
         return Ok(());
     };
-    let stream = u64::from(child / 2) * 0x1_0000_0000 + u64::from(gen_);
-    out.push(Wrap {
-        child,
-        child_gen: generation_at(setting.depth, changes, child),
-        body: wrap32(key, stream, new),
-    })?;
+    out.push(sealed(setting, changes, gen_, child, key, new))?;
     Ok(())
 }
 
@@ -92,11 +115,13 @@ fn put_wraps(
     out: &mut Vec<Wrap>,
 ) -> Result<(), NoMemory>
     requires depth { (setting.now.depth ≤ 6) × (levels ≤ setting.now.depth) }
-    requires node { n < 2 * 2 ^ levels }
+    requires node { (2 ^ levels ≤ n) × (n < 2 * 2 ^ levels) }
     requires nodes { 2 * 2 ^ levels ≤ 2 * 2 ^ setting.now.depth }
     requires key { key ≡ key_at setting.now (reverse changes.now) n }
     requires newest { (x : ℕ) → list_any (nat_eq x) (ancestors levels n) ≡ true → generation setting.now.depth (reverse changes.now) x ≡ gen_ }
-    ensures { OnOk result (out.new.items ≡ out.old.items ++ wraps_above setting.now (reverse changes.now) gen_ levels n) }
+    ensures wraps { OnOk result (out.new.items ≡ out.old.items ++ wraps_above setting.now (reverse changes.now) gen_ levels n) }
+    ensures few { OnOk result (length out.new.items ≤ length out.old.items + 2 * levels) }
+    ensures spelled { OnOk result (AllByRecursion IsWrap out.old.items → AllByRecursion IsWrap out.new.items) }
 {
     if levels == 0 {
         return Ok(());
@@ -130,7 +155,8 @@ pub fn wraps_of(
 ) -> Result<Vec<Wrap>, NoMemory>
     requires depth { setting.now.depth ≤ 6 }
     requires slot { change.now.slot < 2 ^ setting.now.depth }
-    ensures { IfOk result (λ wraps. wraps.items ≡ wraps_of setting.now (record { change = change.now; before = reverse before.now })) }
+    ensures wraps { IfOk result (λ wraps. wraps.items ≡ wraps_of setting.now (record { change = change.now; before = reverse before.now })) }
+    ensures spelled { IfOk result (λ wraps. AreWraps wraps.items) }
 {
     let mut after = Vec::from_slice(alloc, before)?;
     after.push(*change)?;
