@@ -1,0 +1,7 @@
+pub mod Lists
+pub mod Places
+pub mod Heard
+pub mod Texts
+pub mod Keeping
+pub mod Asked
+pub mod Steps
