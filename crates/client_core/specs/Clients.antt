@@ -7,6 +7,7 @@ use Rattle.op_types.specs.declared.kind.Kind.{Kind}
 use Rattle.op_types.specs.declared.op.Leaf.{Leaf}
 use Rattle.op_types.specs.declared.op.Op.{Op}
 use Rattle.op_types.specs.declared.view.View.{View}
+use Rattle.op_types.specs.Spelling.{IsOp, op_text}
 use Rattle.op_types.specs.declared.limits.TheConstants.{SEQ_MAX}
 use Rattle.lms_tree.specs.Signer.{Signing}
 use Rattle.lms_tree.specs.Valid.{Key}
@@ -20,7 +21,9 @@ use Rattle.check_core.specs.declared.checked.Checked.{Checked}
 use Rattle.check_core.specs.declared.checked.Checked.TheVariants.{Same, Taken, Refused}
 use Rattle.check_core.specs.View.{checked_view}
 use Rattle.msg_form.specs.declared.decline.Decline.{Decline}
+use Rattle.msg_form.specs.declared.message.Request.TheVariants as requests
 use Rattle.msg_form.specs.declared.verdict.Verdict.{Verdict}
+use Rattle.msg_form.specs.Messages.{IsRequest}
 use Rattle.world_book.specs.declared.book.UserBook.{UserBook}
 use Rattle.world_book.specs.declared.took.Took.{Took}
 use Rattle.client_core.specs.declared.news.News.{News}
@@ -109,6 +112,12 @@ pub record Appends (before : ClientView) (wall : ℕ) (kind : Kind) (sent : Sent
   pub found : side_of wall before.sides ≡ Some side
   pub sent_is : sent ≡ sent_of side.known.size (signed_by before.signer (unsigned before.book.user side kind))
   pub after_is : after ≡ having_sent before side sent.signed
+
+-- The operation that is sent to a wall of which so many positions are accepted has a spelling, and so has the request
+-- with it.
+abbrev pub IsSendable : ℕ → Option Op → Type 0
+IsSendable have None = Unit {0}
+IsSendable have (Some op) = IsOp op × IsRequest (requests.Append op.wall have (op_text op))
 
 -- A client declines by the plain client's rule.
 pub record Declines (c : ClientView) (wall : ℕ) (command : Command) (decline : Decline) : Type 0 where

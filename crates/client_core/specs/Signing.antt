@@ -1,7 +1,7 @@
 -- Room for an operation's signature: in the texts that will hold it, and in the user's book.
-use Rattle.std.specs.Prelude.{◌≡◌, true, false, [], ◌∷◌, ◌++◌, Option, Some, None}
+use Rattle.std.specs.Prelude.{◌≡◌, ◌<◌, ◌^◌, true, false, [], ◌∷◌, ◌++◌, Option, Some, None}
 use Rattle.op_types.specs.declared.op.Op.{Op}
-use Rattle.op_types.specs.Spelling.{op_text}
+use Rattle.op_types.specs.Spelling.{IsOp, op_text}
 use Rattle.msg_form.specs.declared.message.Request.TheVariants as requests
 use Rattle.msg_form.specs.Messages.{request_text}
 use Rattle.world_book.specs.declared.book.UserBook.{UserBook}
@@ -12,6 +12,8 @@ use Rattle.client_core.specs.declared.signing.Draft.{Draft}
 pub record IsDraft (draft : Draft) : Type 0 where
   pub text : draft.text ≡ op_text draft.op
   pub request : draft.request ≡ request_text (requests.Append draft.op.wall draft.have (op_text draft.op))
+  pub is_op : IsOp draft.op
+  pub have : draft.have < 2 ^ 64
 
 -- An honest user's book has a place more, and a copy is kept for it; a rogue's has none.
 abbrev pub IsRoom : UserBook → UserBook → Op → Option Op → Type 0

@@ -5,7 +5,7 @@ ghost use Rattle.op_types.specs.declared.limits.TheConstants.{BODY_BYTES_MAX, SE
 ghost use Rattle.op_types.specs.Spelling.{IsKind, IsLeaf, IsOp, IsView};
 ghost use Rattle.check_rules.specs.Shown.{changes_of};
 ghost use Rattle.msg_form.specs.declared.message.Request.TheVariants as requests;
-ghost use Rattle.msg_form.specs.Messages.{request_text};
+ghost use Rattle.msg_form.specs.Messages.{IsRequest, SpellsRequest, request_text};
 ghost use Rattle.msg_form.specs.declared.decline.Decline.TheVariants as declines;
 ghost use Rattle.fr_bytes.specs.Parts.{IsLimited};
 ghost use Rattle.pad_wrap.specs.Pad.{padded};
@@ -203,7 +203,8 @@ impl Side {
 
     /// The request to see the wall: all that is new where `whole`, else at least the last of it.
     pub(crate) fn look(&self, alloc: Global, whole: bool) -> Result<Sent, NoMemory>
-        ensures { IfOk result (λ sent. sent ≡ look_sent (side_view self.now) whole) }
+        ensures sent { IfOk result (λ sent. sent ≡ look_sent (side_view self.now) whole) }
+        ensures spelled { OnOk result (IsRequest (requests.Look self.now.known.wall self.now.known.size whole)) }
     {
         let wall = self.known.wall;
         let have = self.known.size;
@@ -218,7 +219,7 @@ impl Side {
 
     /// The request for the changes of the access list.
     pub(crate) fn keys_request(&self, alloc: Global) -> Result<Bytes, NoMemory>
-        ensures { IfOk result (λ bytes. bytes ≡ request_text (requests.Keys self.now.known.wall self.now.known.size)) }
+        ensures { IfOk result (SpellsRequest (requests.Keys self.now.known.wall self.now.known.size)) }
     {
         request_keys(alloc, self.known.wall, self.known.size)
     }

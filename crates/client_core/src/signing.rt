@@ -1,6 +1,7 @@
 //! Operations that are signed and sent. All room is taken before the signature is made, so that want of memory uses no
 //! leaf and no number.
-ghost use Rattle.std.specs.Prelude.{◌≡◌, ◌<◌, ◌≤◌, ◌+◌, ◌-◌, ◌*◌, ◌^◌, ◌++◌, ℕ, length, take, IfOk, IfSome, OnOk, OnErr};
+ghost use Rattle.std.specs.Prelude.{◌≡◌, ◌<◌, ◌≤◌, ◌+◌, ◌-◌, ◌*◌, ◌^◌, ◌++◌, ℕ, length, take, IfOk, IfSome, OnOk, OnErr, Some};
+ghost use Rattle.fr_bytes.specs.Bytes.{IsBytes};
 ghost use Rattle.fr_bytes.specs.Parts.{IsLimited};
 ghost use Rattle.lms_tree.specs.Signer.{signature_at};
 ghost use Rattle.op_types.specs.declared.limits.TheConstants.{SEQ_MAX, SIGNATURE_BYTES_MAX};
@@ -11,7 +12,7 @@ ghost use Rattle.signed_ops.specs.Signed.{once_more, signed_by, with_sig};
 ghost use Rattle.world_book.specs.declared.book.UserBook.{UserBook};
 ghost use Rattle.op_types.specs.declared.op.Op.{Op};
 ghost use Rattle.client_core.specs.Asking.{sent_of, unsigned};
-ghost use Rattle.client_core.specs.Clients.{with_signed};
+ghost use Rattle.client_core.specs.Clients.{IsSendable, with_signed};
 ghost use Rattle.client_core.specs.Sides.{IsSide, side_view};
 ghost use Rattle.client_core.specs.Signing.{IsDraft, IsRoom};
 
@@ -83,14 +84,16 @@ impl Draft {
     fn signed(self, sig: Bytes) -> Sent
         requires draft { IsDraft self }
         requires length { length sig ≡ length self.op.sig }
-        ensures { result ≡ sent_of self.have (with_sig self.op sig) }
+        requires bytes { IsBytes sig }
+        ensures sent { result ≡ sent_of self.have (with_sig self.op sig) }
+        ensures spelled { IsSendable self.have (Some (with_sig self.op sig)) }
     {
+        let op = with_end(self.text, sig.as_slice());
+        laws::slices_of_bytes(op.as_slice());
         Sent {
             request: with_end(self.request, sig.as_slice()),
             wall: self.op.wall,
-            asked: Asked::Append {
-                op: with_end(self.text, sig.as_slice()),
-            },
+            asked: Asked::Append { op },
             signed: Some(Op { sig, ..self.op }),
         }
     }
@@ -166,11 +169,15 @@ fn signature(signer: &mut Signer, message: &[u8]) -> Result<Bytes, NoMemory>
     requires { signer.old.used < 2 ^ signer.old.pair.lms.h }
     ensures value { IfOk result (λ sig. sig ≡ signature_at signer.old.private signer.old.id signer.old.pair signer.old.used message.now) }
     ensures length { IfOk result (λ sig. length sig ≡ 8 + signer.old.pair.ots.sig_len + 32 * signer.old.pair.lms.h) }
+    ensures bytes { IfOk result IsBytes }
     ensures used { OnOk result (signer.new ≡ once_more signer.old) }
     ensures unchanged { OnErr result (signer.new ≡ signer.old) }
 {
     match signer.sign(message) {
-        Ok(sig) => Ok(sig),
+        Ok(sig) => {
+            laws::slices_of_bytes(sig.as_slice());
+            Ok(sig)
+        }
         Err(SignRefusal::NoMemory) => Err(NoMemory),
         Err(SignRefusal::Spent) => unreachable!(),
     }
@@ -188,6 +195,7 @@ fn sign_draft(
     requires leaf { signer.old.used < 2 ^ signer.old.pair.lms.h }
     requires room { length draft.op.sig ≡ 8 + signer.old.pair.ots.sig_len + 32 * signer.old.pair.lms.h }
     ensures sent { IfOk result (λ sent. sent ≡ sent_of draft.have (with_sig draft.op (signature_at signer.old.private signer.old.id signer.old.pair signer.old.used message.now))) }
+    ensures spelled { OnOk result (IsSendable draft.have (Some (with_sig draft.op (signature_at signer.old.private signer.old.id signer.old.pair signer.old.used message.now)))) }
     ensures signer { OnOk result (signer.new ≡ once_more signer.old) }
     ensures book { OnOk result (book.new ≡ with_signed book.old (with_sig draft.op (signature_at signer.old.private signer.old.id signer.old.pair signer.old.used message.now))) }
     ensures same_signer { OnErr result (signer.new ≡ signer.old) }
@@ -218,6 +226,7 @@ pub(crate) fn sign(
     requires op { IsOp op }
     requires leaf { signer.old.used < 2 ^ signer.old.pair.lms.h }
     ensures sent { IfOk result (λ sent. sent ≡ sent_of have (signed_by signer.old op)) }
+    ensures spelled { OnOk result (IsSendable have (Some (signed_by signer.old op))) }
     ensures signer { OnOk result (signer.new ≡ once_more signer.old) }
     ensures book { OnOk result (book.new ≡ with_signed book.old (signed_by signer.old op)) }
     ensures same_signer { OnErr result (signer.new ≡ signer.old) }
@@ -248,6 +257,7 @@ pub(crate) fn append(
     requires number { side.old.next ≤ SEQ_MAX }
     requires kind { IsKind kind }
     ensures sent { IfOk result (λ sent. sent ≡ sent_of side.old.known.size (signed_by signer.old (unsigned book.old.user (side_view side.old) kind))) }
+    ensures spelled { OnOk result (IsSendable side.old.known.size (Some (signed_by signer.old (unsigned book.old.user (side_view side.old) kind)))) }
     ensures signer { OnOk result (signer.new ≡ once_more signer.old) }
     ensures side { OnOk result (side_view side.new ≡ record (side_view side.old) { next = side.old.next + 1 }) }
     ensures book { OnOk result (book.new ≡ with_signed book.old (signed_by signer.old (unsigned book.old.user (side_view side.old) kind))) }

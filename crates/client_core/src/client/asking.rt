@@ -4,8 +4,10 @@ ghost use Rattle.op_types.specs.Roles.{may_be_given};
 ghost use Rattle.op_types.specs.Spelling.{IsKind};
 ghost use Rattle.msg_form.specs.declared.decline.Decline.TheVariants as declines;
 ghost use Rattle.client_core.specs.Asking.{admit, look, post, remove};
-ghost use Rattle.client_core.specs.Clients.{client_view, Appends, Asks, Declines, IsReady};
-ghost use Rattle.client_core.specs.Sides.{sides_view, HasSide, IsSide, side_of, side_view};
+ghost use Rattle.client_core.specs.Clients.{client_view, Appends, Asks, Declines, IsReady, IsSendable};
+ghost use Rattle.msg_form.specs.declared.message.Request.TheVariants as requests;
+ghost use Rattle.msg_form.specs.Messages.{IsRequest};
+ghost use Rattle.client_core.specs.Sides.{sides_view, HasSide, IsSide, SideView, side_of, side_view};
 
 use super::Client;
 use crate::sent::Sent;
@@ -34,6 +36,8 @@ impl<D: Digester> Client<D> {
         requires ready { IsReady (client_view self.old) wall }
         requires kind { IsKind kind }
         ensures appends { IfOk result (λ sent. Appends (client_view self.old) wall kind sent (client_view self.new)) }
+        ensures spelled { IfOk result (λ sent. (s : SideView) → side_of wall (sides_view self.old.sides) ≡ Some s
+            → IsSendable s.known.size sent.signed) }
         ensures declines { IfErr result (λ d. d ≡ declines.NoMemory) }
         ensures unchanged { OnErr result (client_view self.new ≡ client_view self.old) }
     {
@@ -52,7 +56,9 @@ impl<D: Digester> Client<D> {
     /// `NoMemory`.
     pub fn look_request(&self, alloc: Global, wall: u32, whole: bool) -> Result<Sent, NoMemory>
         requires { HasSide wall (sides_view self.now.sides) }
-        ensures { IfOk result (λ sent. Asks (client_view self.now) wall (look whole) sent (client_view self.now)) }
+        ensures asks { IfOk result (λ sent. Asks (client_view self.now) wall (look whole) sent (client_view self.now)) }
+        ensures spelled { IfOk result (λ sent. (s : SideView) → side_of wall (sides_view self.now.sides) ≡ Some s
+            → IsRequest (requests.Look s.known.wall s.known.size whole)) }
     {
         self.side(wall).look(alloc, whole)
     }
@@ -67,6 +73,8 @@ impl<D: Digester> Client<D> {
         requires ready { IsReady (client_view self.old) wall }
         requires text { length text.now ≤ BODY_BYTES_MAX }
         ensures asks { IfOk result (λ sent. Asks (client_view self.old) wall (post text.now) sent (client_view self.new)) }
+        ensures spelled { IfOk result (λ sent. (s : SideView) → side_of wall (sides_view self.old.sides) ≡ Some s
+            → IsSendable s.known.size sent.signed) }
         ensures declines { IfErr result (λ d. d ≢ declines.NoMemory → Declines (client_view self.old) wall (post text.now) d) }
         ensures unchanged { OnErr result (client_view self.new ≡ client_view self.old) }
     {
@@ -91,6 +99,8 @@ impl<D: Digester> Client<D> {
         requires ready { IsReady (client_view self.old) wall }
         requires role { may_be_given role ≡ true }
         ensures asks { IfOk result (λ sent. Asks (client_view self.old) wall (admit user role) sent (client_view self.new)) }
+        ensures spelled { IfOk result (λ sent. (s : SideView) → side_of wall (sides_view self.old.sides) ≡ Some s
+            → IsSendable s.known.size sent.signed) }
         ensures declines { IfErr result (λ d. d ≢ declines.NoMemory → Declines (client_view self.old) wall (admit user role) d) }
         ensures unchanged { OnErr result (client_view self.new ≡ client_view self.old) }
     {
@@ -106,6 +116,8 @@ impl<D: Digester> Client<D> {
     pub fn remove_request(&mut self, alloc: Global, wall: u32, user: u32) -> Result<Sent, Decline>
         requires { IsReady (client_view self.old) wall }
         ensures asks { IfOk result (λ sent. Asks (client_view self.old) wall (remove user) sent (client_view self.new)) }
+        ensures spelled { IfOk result (λ sent. (s : SideView) → side_of wall (sides_view self.old.sides) ≡ Some s
+            → IsSendable s.known.size sent.signed) }
         ensures declines { IfErr result (λ d. d ≢ declines.NoMemory → Declines (client_view self.old) wall (remove user) d) }
         ensures unchanged { OnErr result (client_view self.new ≡ client_view self.old) }
     {

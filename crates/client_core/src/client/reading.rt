@@ -2,7 +2,7 @@ ghost use Rattle.std.specs.Prelude.{◌≡◌, ◌≢◌, Some, IfOk, IfErr, OnE
 ghost use Rattle.op_types.specs.Spelling.{IsOp};
 ghost use Rattle.msg_form.specs.declared.message.Request.TheVariants as requests;
 ghost use Rattle.msg_form.specs.declared.verdict.Verdict.TheVariants as verdicts;
-ghost use Rattle.msg_form.specs.Messages.{request_text};
+ghost use Rattle.msg_form.specs.Messages.{SpellsRequest};
 ghost use Rattle.std.specs.List.{AllByRecursion};
 ghost use Rattle.client_core.specs.Clients.{client_view, Learns, Relearns, RejectsKeys, read_of};
 ghost use Rattle.client_core.specs.Keys.{IsNumbered, held};
@@ -35,7 +35,7 @@ impl<D: Digester> Client<D> {
     pub fn keys_request(&self, alloc: Global, wall: u32) -> Result<Bytes, NoMemory>
         requires { HasSide wall (sides_view self.now.sides) }
         ensures { IfOk result (λ bytes. (s : SideView) → side_of wall (sides_view self.now.sides) ≡ Some s
-            → bytes ≡ request_text (requests.Keys s.known.wall s.known.size)) }
+            → SpellsRequest (requests.Keys s.known.wall s.known.size) bytes) }
     {
         self.side(wall).keys_request(alloc)
     }

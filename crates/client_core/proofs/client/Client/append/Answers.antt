@@ -1,9 +1,11 @@
-use Rattle.std.proofs.Common.{◌≡◌, ◌∙◌, List, ap, sym, subst}
+use Rattle.std.proofs.Common.{◌≡◌, ◌∙◌, List, Option, Some, ap, sym, subst}
 use Rattle.std.specs.Prelude.{IfOk, OnErr, Result, slice_set}
 use Rattle.msg_form.specs.declared.decline.Decline.{Decline}
 use Rattle.client_core.specs.declared.side.Side.{Side}
-use Rattle.client_core.specs.Clients.{Standing, client_view, Appends}
-use Rattle.client_core.specs.Sides.{HasSide, place_of, sides_view}
+use Rattle.op_types.specs.declared.op.Op.{Op}
+use Rattle.client_core.specs.Asking.{sent_of}
+use Rattle.client_core.specs.Clients.{Standing, client_view, Appends, IsSendable}
+use Rattle.client_core.specs.Sides.{HasSide, SideView, place_of, side_of, side_view, sides_view}
 use Rattle.client_core.proofs.Places.{at-place}
 use Rattle.client_core.specs.declared.sent.Sent.{Sent}
 use Rattle.client_core.proofs.Places.{has-side}
@@ -66,4 +68,28 @@ returns-clause-unchanged g c =
           (subst (λ (x : Standing). after ≡ client_view x) c.self.view_is
           (unmoved d old.signer old.sides.items old.book c.args.wall c.place_of-place.result s at c.self.invariant new c.append.new.signer c.append.new.book
           w.in-Err.ensures.same_signer w.in-Err.ensures.same_side w.in-Err.ensures.same_book))
+    ]
+
+pub returns-clause-spelled : goal.returns-clause-spelled
+unfolding sent_of
+returns-clause-spelled g c =
+    let h = subst (λ (xs : List Side). HasSide c.args.wall (sides_view xs)) (sym (ap (λ (x : Standing). x.sides) c.self.view_is))
+    (has-side c.args.wall (sides_view c.args.self.now.sides) c.requires.ready.side c.requires.ready.found) in
+    let e = c.place_of-place.ensures ∙ ap (λ (xs : List Side). place_of c.args.wall (sides_view xs)) c.deref.ensures.value in
+    let at = at-place c.args.wall c.self.inside.sides.items c.place_of-place.result c.index_mut-side.result.now e h c.index_mut-side.ensures.value in
+    let s = c.index_mut-side.result.now in
+    let found : side_of c.args.wall (sides_view c.args.self.now.sides) ≡ Some (side_view s) =
+    ap (λ (x : Standing). side_of c.args.wall (sides_view x.sides)) (sym c.self.view_is) ∙ at.found in
+    elim c.match-append.branch [
+      | in-Ok w ↦ subst (λ (r : Result Sent Decline). IfOk r (λ sent. (t : SideView)
+          → side_of c.args.wall (sides_view c.args.self.now.sides) ≡ Some t → IsSendable t.known.size sent.signed))
+          (sym w.result-is)
+          (λ t there.
+          let same : side_view s ≡ t = let both = sym found ∙ there in cc in
+          let signed = ap (λ (x : Sent). x.signed) w.in-Ok.ensures.sent in
+          subst (λ (x : SideView). IsSendable x.known.size w.in-Ok.sent.signed) same
+          (subst (λ (o : Option Op). IsSendable s.known.size o) (sym signed) w.in-Ok.ensures.spelled))
+      | in-Err w ↦ subst (λ (r : Result Sent Decline). IfOk r (λ sent. (t : SideView)
+          → side_of c.args.wall (sides_view c.args.self.now.sides) ≡ Some t → IsSendable t.known.size sent.signed))
+          (sym w.result-is) tt
     ]
