@@ -9,13 +9,13 @@ use Rattle.fr_digest.specs.Digest.{Digest}
 use Rattle.op_types.specs.declared.op.Leaf.{Leaf}
 use Rattle.op_types.specs.declared.op.Op.{Op}
 use Rattle.op_types.specs.declared.view.View.{View}
-use Rattle.lms_tree.specs.Signer.{Signing}
+use Rattle.lms_tree.specs.Signer.{Signing, public_of}
 use Rattle.lms_tree.specs.Valid.{Key}
 use Rattle.hist_proof.specs.declared.pruned.Pruned.{Pruned}
 use Rattle.hist_proof.specs.Pruned.{Tree}
 use Rattle.hist_proof.specs.View.{tree_view}
 use Rattle.pruned_list.specs.PrunedList.{PrunedList}
-use Rattle.signed_ops.specs.Signed.{once_more}
+use Rattle.signed_ops.specs.Signed.{key_of, once_more}
 use Rattle.fr_bytes.specs.Bytes.{Text}
 use Rattle.dict_proof.specs.declared.pruned_dict.PrunedDict.{PrunedDict}
 use Rattle.dict_proof.specs.View.{list_view}
@@ -63,7 +63,7 @@ noted wall (x ∷ sides) s e = by (nat_eq x.known.wall wall) (noted wall sides s
     by true rest e' = let same : x ≡ s = cc in ap (λ (y : SideView). Some (note_of_side y)) same
     by false rest e' = rest e'
 
-put-users : (wall : ℕ) (t : SideView) (sides : List SideView) (s : SideView) → side_of wall sides ≡ Some s → t.known.users ≡ s.known.users
+pub put-users : (wall : ℕ) (t : SideView) (sides : List SideView) (s : SideView) → side_of wall sides ≡ Some s → t.known.users ≡ s.known.users
     → users_of (with_side wall t sides) ≡ users_of sides
 put-users wall t [] s e h = refl
 put-users wall t (x ∷ sides) s e h = by (nat_eq x.known.wall wall) e
@@ -103,16 +103,26 @@ module _ (d : Digest) (c : ClientView) (s t : SideView) (kept : Keeps d c) (foun
     | inr other ↦ others v o other.1 (sym (put-other s.known.wall v t c.sides wall other.1) ∙ e)
   ]
 
-  pub put-keeps : (signer : Signing) (book : UserBook) → KeptBook d (notes_of c.sides) (users_of c.sides) book
+  listed : (book : UserBook) → book.user ≡ c.book.user → book.key ≡ c.book.key
+      → (v : ℕ) (o : SideView) → side_of v c.sides ≡ Some o → key_of o.known.users book.user ≡ Some book.key
+  listed book user key v o e = ap (key_of o.known.users) user ∙ (kept.own v o e ∙ ap Some (sym key))
+
+  pub put-keeps : (signer : Signing) (book : UserBook) → book.user ≡ c.book.user → book.key ≡ c.book.key
+      → public_of signer.private signer.id signer.pair ≡ public_of c.signer.private c.signer.id c.signer.pair
+      → KeptBook d (notes_of c.sides) (users_of c.sides) book
       → (book.rogue ≡ false → IsTold book t)
       → (book.rogue ≡ false → (v : ℕ) (o : SideView) → (v ≡ s.known.wall → ⊥) → side_of v c.sides ≡ Some o → IsTold book o)
       → Keeps d (record { signer = signer; sides = after; book = book })
-  put-keeps signer book b this others = record {
+  put-keeps signer book user key public b this others = record {
     each = each-put IsSide s.known.wall t c.sides kept.each is_side;
     users = found-in (λ (o : SideView). o.known.users ≡ users_of after) (users ∙ (kept.users s.known.wall s found ∙ sym same-users))
         (λ v o ne e. kept.users v o e ∙ sym same-users);
     book = subst (λ (us : List (ℕ × Key)). KeptBook d (notes_of after) us book) (sym same-users)
         (subst (λ (ns : List WallNote). KeptBook d ns (users_of c.sides) book) (sym same-notes) b);
+    key = key ∙ (kept.key ∙ sym public);
+    own = found-in (λ (o : SideView). key_of o.known.users book.user ≡ Some book.key)
+        (ap (λ (us : List (ℕ × Key)). key_of us book.user) users ∙ listed book user key s.known.wall s found)
+        (λ v o ne e. listed book user key v o e);
     told = λ honest. found-in (IsTold book) (this honest) (others honest);
   }
 
@@ -127,7 +137,7 @@ keys-keep d c s keys kept found =
     let t : SideView = record s { keys = keys } in
     let side = each-found IsSide s.known.wall c.sides s kept.each found in
     put-keeps d c s t kept found refl refl (record { few = side.few; view = side.view; size = side.size; root = side.root })
-    c.signer c.book kept.book
+    c.signer c.book refl refl refl kept.book
     (λ honest. let told = kept.told honest s.known.wall s found in record { size = told.size; root = told.root; later = told.later })
     (λ honest v o ne e. kept.told honest v o e)
 
@@ -189,23 +199,23 @@ module _ (d : Digest) (c : ClientView) (s : SideView) (kept : Keeps d c) (found 
         (last, tt);
   }
 
-  put : (book : UserBook) → KeptBook d (notes_of c.sides) (users_of c.sides) book → (book.rogue ≡ false → IsTold book t)
+  put : (book : UserBook) → book.user ≡ c.book.user → book.key ≡ c.book.key → KeptBook d (notes_of c.sides) (users_of c.sides) book → (book.rogue ≡ false → IsTold book t)
       → (book.rogue ≡ false → (v : ℕ) (o : SideView) → (v ≡ s.known.wall → ⊥) → side_of v c.sides ≡ Some o → IsTold book o)
       → Keeps d (record { signer = once_more c.signer; sides = with_side s.known.wall t c.sides; book = book })
-  put book = put-keeps d c s t kept found refl refl (record { few = side.few; view = side.view; size = side.size; root = side.root })
-      (once_more c.signer) book
+  put book user key = put-keeps d c s t kept found refl refl (record { few = side.few; view = side.view; size = side.size; root = side.root })
+      (once_more c.signer) book user key refl
 
   pub sent-keeps : Keeps d (having_sent c s (Some op))
   sent-keeps = elim (cases_Bool c.book.rogue) [
     | inl rogue ↦
         subst (λ (b : UserBook). Keeps d (record { signer = once_more c.signer; sides = with_side s.known.wall t c.sides; book = b }))
         (sym (cond-true c.book.rogue c.book longer rogue))
-        (put c.book kept.book (λ honest. not-both rogue honest) (λ honest v o ne e. not-both rogue honest))
+        (put c.book refl refl kept.book (λ honest. not-both rogue honest) (λ honest v o ne e. not-both rogue honest))
     | inr honest ↦
         let told = kept.told honest s.known.wall s found in
         subst (λ (b : UserBook). Keeps d (record { signer = once_more c.signer; sides = with_side s.known.wall t c.sides; book = b }))
         (sym (cond-false c.book.rogue c.book longer honest))
-        (put longer (signed-kept d (notes_of c.sides) (users_of c.sides) c.book entry kept.book honest (is-signed told))
+        (put longer refl refl (signed-kept d (notes_of c.sides) (users_of c.sides) c.book entry kept.book honest (is-signed told))
         (λ h. still-told s (s.next + 1) told (omega arith) (λ e. let same = next.seq in omega arith))
         (λ h v o ne e. still-told o o.next (kept.told honest v o e) (omega arith)
         (λ here. absurd (ne (sym (found-wall v c.sides o e) ∙ (sym here ∙ next.wall))))))
@@ -280,28 +290,28 @@ module _ (d : Digest) (c : ClientView) (s : SideView) (kept : Keeps d c) (found 
         later = told.later;
       }
 
-  put-u : (book : UserBook) → KeptBook d (notes_of c.sides) (users_of c.sides) book → (book.rogue ≡ false → IsTold book u)
+  put-u : (book : UserBook) → book.user ≡ c.book.user → book.key ≡ c.book.key → KeptBook d (notes_of c.sides) (users_of c.sides) book → (book.rogue ≡ false → IsTold book u)
       → (book.rogue ≡ false → (v : ℕ) (o : SideView) → (v ≡ s.known.wall → ⊥) → side_of v c.sides ≡ Some o → IsTold book o)
       → Keeps d (record { signer = c.signer; sides = with_side s.known.wall u c.sides; book = book })
-  put-u book = put-keeps d c s u kept found refl refl
+  put-u book user key = put-keeps d c s u kept found refl refl
       (record {
         few = (each-found IsSide s.known.wall c.sides s kept.each found).few;
         view = is.view_is;
         size = refl;
         root = λ some. refl;
-      }) c.signer book
+      }) c.signer book user key refl
 
   record-keeps : Keeps d (record { signer = c.signer; sides = with_side s.known.wall u c.sides; book = with_took c.book took })
   record-keeps = elim (cases_Bool c.book.rogue) [
     | inl rogue ↦
         subst (λ (b : UserBook). Keeps d (record { signer = c.signer; sides = with_side s.known.wall u c.sides; book = b }))
         (sym (cond-true c.book.rogue c.book grown rogue))
-        (put-u c.book kept.book (λ honest. not-both rogue honest) (λ honest v o ne e. not-both rogue honest))
+        (put-u c.book refl refl kept.book (λ honest. not-both rogue honest) (λ honest v o ne e. not-both rogue honest))
     | inr honest ↦
         let told = kept.told honest s.known.wall s found in
         subst (λ (b : UserBook). Keeps d (record { signer = c.signer; sides = with_side s.known.wall u c.sides; book = b }))
         (sym (cond-false c.book.rogue c.book grown honest))
-        (put-u grown (took-kept d (notes_of c.sides) (users_of c.sides) c.book took kept.book honest (is-record told))
+        (put-u grown refl refl (took-kept d (notes_of c.sides) (users_of c.sides) c.book took kept.book honest (is-record told))
         (λ h. this-told told)
         (λ h v o ne e. other-told o (λ here. ne (sym (here ∙ found-wall v c.sides o e))) (kept.told honest v o e)))
   ]
@@ -342,17 +352,23 @@ none-kept d notes keys user key rogue = record {
 }
 
 pub opening-keeps : (d : Digest) (signer : Signing) (user : ℕ) (key : Key) (rogue : Bool) (starts : List SideStart) → AreStarts user key starts
+    → key ≡ public_of signer.private signer.id signer.pair
     → AllByRecursion IsSide (map (opening_side user) starts)
     → Keeps d (record {
       signer = signer;
       sides = map (opening_side user) starts;
       book = record { user = user; key = key; rogue = rogue; took = []; signed = [] };
     })
-opening-keeps d signer user key rogue starts are sides = record {
+opening-keeps d signer user key rogue starts are public sides = record {
   each = sides;
   users = λ wall s. users-are are.keys wall (map (opening_side user) starts) s
       (all-mapped (opening_side user) (λ (x : SideStart). x.known.users ≡ are.keys) (λ (x : SideView). x.known.users ≡ are.keys) starts are.same (λ x e. e));
   book = none-kept d (notes_of (map (opening_side user) starts)) (users_of (map (opening_side user) starts)) user key rogue;
+  key = public;
+  own = λ wall s found. ap (λ (us : List (ℕ × Key)). key_of us user)
+      (each-found (λ (x : SideView). x.known.users ≡ are.keys) wall (map (opening_side user) starts) s
+      (all-mapped (opening_side user) (λ (x : SideStart). x.known.users ≡ are.keys) (λ (x : SideView). x.known.users ≡ are.keys) starts are.same (λ x e. e)) found)
+      ∙ are.own;
   told = λ honest wall s found. none-told (record { user = user; key = key; rogue = rogue; took = []; signed = [] }) s refl refl
       (each-found (λ (x : SideView). x.known.size ≡ 0) wall (map (opening_side user) starts) s
       (all-mapped (opening_side user) (IsStart user) (λ (x : SideView). x.known.size ≡ 0) starts are.each (λ x h. h.size)) found);

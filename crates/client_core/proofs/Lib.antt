@@ -5,3 +5,4 @@ pub mod Texts
 pub mod Keeping
 pub mod Asked
 pub mod Steps
+pub mod Walls

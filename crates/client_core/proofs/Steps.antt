@@ -1,11 +1,16 @@
 -- A client after what its calls do with the side of a wall.
 use Rattle.std.proofs.Common.{◌≡◌, ◌∙◌, ℕ, ◌+◌, List, Some, refl, ap, sym, subst}
-use Rattle.std.specs.Prelude.{slice_set}
+use Rattle.std.specs.Prelude.{IfSome, slice_set}
+use Rattle.fr_bytes.specs.Bytes.{Text}
 use Rattle.fr_digest.specs.Digest.{Digest}
 use Rattle.op_types.specs.declared.kind.Kind.{Kind}
 use Rattle.op_types.specs.declared.op.Op.{Op}
-use Rattle.lms_tree.specs.Signer.{Signing}
-use Rattle.signed_ops.specs.Signed.{once_more, signed_by}
+use Rattle.op_types.specs.Spelling.{op_signed}
+use Rattle.lms_tree.specs.Signer.{Signing, public_of}
+use Rattle.lms_tree.specs.Valid.{Valid}
+use Rattle.signed_ops.specs.Signed.{IsAuthorSigned, once_more, signed_by}
+use Rattle.signed_ops.proofs.Signatures.{unsigned_by}
+use Rattle.client_core.specs.Signing.{IsValidNext}
 use Rattle.check_core.specs.declared.checked.Checked.{Checked}
 use Rattle.check_core.specs.View.{checked_view}
 use Rattle.world_book.specs.declared.book.UserBook.{UserBook}
@@ -84,13 +89,24 @@ module _ (d : Digest) (signer : Signing) (sides : List Side) (book : UserBook) (
   appends-keeps kind sg b e f g = subst (Keeps d) (sym (sent-so kind sg b e f g))
       (sent-keeps d (now signer sides book) (side_view s) kept at.own (op-of kind) (record { author = refl; wall = refl; seq = refl; view = refl }))
 
-  pub appends : (kind : Kind) (sg : Signing) (b : UserBook) (sent : Sent) → sent ≡ sent_of s.known.size (op-of kind) → sg ≡ once_more signer
+  own-signed : (kind : Kind) → IsValidNext signer (op_signed (unsigned book.user (side_view s) kind)) → IsAuthorSigned s.known.users (op-of kind)
+  unfolding signed_by
+  own-signed kind valid = record {
+    key = public_of signer.private signer.id signer.pair;
+    listed = kept.own wall (side_view s) at.found ∙ ap Some kept.key;
+    valid = subst (λ (m : Text). Valid (public_of signer.private signer.id signer.pair) m (op-of kind).sig)
+        (sym (unsigned_by (unsigned book.user (side_view s) kind) (op-of kind).sig)) valid;
+  }
+
+  pub appends : (kind : Kind) (sg : Signing) (b : UserBook) (sent : Sent) → sent ≡ sent_of s.known.size (op-of kind)
+      → IsValidNext signer (op_signed (unsigned book.user (side_view s) kind)) → sg ≡ once_more signer
       → side_view new ≡ record (side_view s) { next = s.next + 1 } → b ≡ with_signed book (op-of kind)
       → Appends (now signer sides book) wall kind sent (now sg (slice_set sides i new) b)
   unfolding sent_of
-  appends kind sg b sent m e f g = record {
+  appends kind sg b sent m valid e f g = record {
     side = side_view s;
     found = at.found;
     sent_is = m;
+    signed = subst (λ (x : Sent). IfSome x.signed (IsAuthorSigned s.known.users)) (sym m) (own-signed kind valid);
     after_is = sent-so kind sg b e f g ∙ ap (having_sent (now signer sides book) (side_view s)) (sym (ap (λ (x : Sent). x.signed) m));
   }

@@ -5,7 +5,9 @@ use Rattle.fr_digest.specs.Digest.{Digest}
 use Rattle.op_types.specs.declared.op.Leaf.{Leaf}
 use Rattle.op_types.specs.declared.view.View.{View}
 use Rattle.op_types.specs.Spelling.{IsLeaf, IsView}
+use Rattle.lms_tree.specs.Signer.{public_of}
 use Rattle.lms_tree.specs.Valid.{Key}
+use Rattle.signed_ops.specs.Signed.{key_of}
 use Rattle.hist_proof.specs.declared.pruned.Pruned.{Pruned}
 use Rattle.hist_proof.specs.View.{tree_view}
 use Rattle.dict_proof.specs.declared.pruned_dict.PrunedDict.{PrunedDict}
@@ -42,12 +44,25 @@ pub record IsTold (book : UserBook) (s : SideView) : Type 0 where
   pub root : 0 < s.known.size → s.known.root ≡ root_of (last_on s.known.wall book.took)
   pub later : AllByRecursion (λ (o : Signed). o.op.wall ≡ s.known.wall → o.op.seq < s.next) book.signed
 
--- The sides have the same users, and the book is kept with these and with the sides' notes.
+-- The sides have the same users, among them the client's with the signer's key, and the book is kept with these and with
+-- the sides' notes.
 pub record Keeps (d : Digest) (c : ClientView) : Type 0 where
   pub each : AllByRecursion IsSide c.sides
   pub users : (wall : ℕ) (s : SideView) → side_of wall c.sides ≡ Some s → s.known.users ≡ users_of c.sides
   pub book : KeptBook d (notes_of c.sides) (users_of c.sides) c.book
+  pub key : c.book.key ≡ public_of c.signer.private c.signer.id c.signer.pair
+  pub own : (wall : ℕ) (s : SideView) → side_of wall c.sides ≡ Some s → key_of s.known.users c.book.user ≡ Some c.book.key
   pub told : c.book.rogue ≡ false → (wall : ℕ) (s : SideView) → side_of wall c.sides ≡ Some s → IsTold c.book s
+
+-- A client after a call on a wall: its other sides are as they were, and so are the walls' notes, the users, and whose
+-- book it is.
+pub record StaysAs (before : ClientView) (wall : ℕ) (after : ClientView) : Type 0 where
+  pub others : (v : ℕ) → (v ≡ wall → ⊥) → side_of v after.sides ≡ side_of v before.sides
+  pub notes : notes_of after.sides ≡ notes_of before.sides
+  pub users : users_of after.sides ≡ users_of before.sides
+  pub user : after.book.user ≡ before.book.user
+  pub key : after.book.key ≡ before.book.key
+  pub rogue : after.book.rogue ≡ before.book.rogue
 
 -- What a taken reply shows are leaves.
 abbrev pub ShowsLeaves : Checked → Type 0

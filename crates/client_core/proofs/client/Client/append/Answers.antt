@@ -44,7 +44,7 @@ returns-clause-appends g c =
           (sym w.result-is)
           (subst (λ (x : Standing). Appends (client_view x) c.args.wall c.args.kind w.in-Ok.sent after) c.self.view_is
           (appends d old.signer old.sides.items old.book c.args.wall c.place_of-place.result s at c.self.invariant new c.args.kind c.append.new.signer c.append.new.book w.in-Ok.sent
-          w.in-Ok.ensures.sent w.in-Ok.ensures.signer w.in-Ok.ensures.side w.in-Ok.ensures.book))
+          w.in-Ok.ensures.sent w.in-Ok.ensures.valid w.in-Ok.ensures.signer w.in-Ok.ensures.side w.in-Ok.ensures.book))
       | in-Err w ↦ subst (λ (r : Result Sent Decline). IfOk r (λ sent. Appends (client_view c.args.self.now) c.args.wall c.args.kind sent after))
           (sym w.result-is) tt
     ]
