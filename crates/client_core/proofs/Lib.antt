@@ -6,3 +6,5 @@ pub mod Keeping
 pub mod Asked
 pub mod Steps
 pub mod Walls
+pub mod KeysHeld
+pub mod Streams

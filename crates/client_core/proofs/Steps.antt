@@ -19,7 +19,8 @@ use Rattle.client_core.specs.declared.sent.Sent.{Sent}
 use Rattle.client_core.specs.declared.side.Side.{Side}
 use Rattle.client_core.specs.Asking.{sent_of, unsigned}
 use Rattle.client_core.specs.Clients.{Appends, ClientView, Learns, Makes, book_after, client_view, having_sent, having_taken, with_signed}
-use Rattle.client_core.specs.Keeping.{IsSound, Keeps}
+use Rattle.client_core.specs.Keeping.{IsMadeOn, IsSound, Keeps}
+use Rattle.client_core.proofs.KeysHeld.{relearnt-keys}
 use Rattle.client_core.specs.Sides.{SideView, side_view, sides_view, with_side}
 use Rattle.client_core.specs.Taking.{news_of, relearnt, side_after}
 use Rattle.client_core.proofs.Keeping.{keys-keep, sent-keeps, taken-keeps}
@@ -67,7 +68,8 @@ module _ (d : Digest) (signer : Signing) (sides : List Side) (book : UserBook) (
 
   pub learns-keeps : (changes : List Op) → side_view new ≡ relearnt (side_view s) changes → Keeps d (now signer (slice_set sides i new) book)
   learns-keeps changes e = subst (Keeps d) (sym (learns-so changes e))
-      (keys-keep d (now signer sides book) (side_view s) (relearnt (side_view s) changes).keys kept at.own)
+      (keys-keep d (now signer sides book) (side_view s) (relearnt (side_view s) changes).keys kept at.own
+      (relearnt-keys (side_view s).keys changes))
 
   pub learns : (changes : List Op) → side_view new ≡ relearnt (side_view s) changes
       → Learns (now signer sides book) wall changes (now signer (slice_set sides i new) book)
@@ -83,11 +85,11 @@ module _ (d : Digest) (signer : Signing) (sides : List Side) (book : UserBook) (
       → now sg (slice_set sides i new) b ≡ having_sent (now signer sides book) (side_view s) (Some (op-of kind))
   sent-so kind sg b e f g = put-so sg (once_more signer) b (with_signed book (op-of kind)) (record (side_view s) { next = s.next + 1 }) e f g
 
-  pub appends-keeps : (kind : Kind) (sg : Signing) (b : UserBook) → sg ≡ once_more signer → side_view new ≡ record (side_view s) { next = s.next + 1 }
+  pub appends-keeps : (kind : Kind) (sg : Signing) (b : UserBook) → IsMadeOn book.user (side_view s) kind → sg ≡ once_more signer → side_view new ≡ record (side_view s) { next = s.next + 1 }
       → b ≡ with_signed book (op-of kind) → Keeps d (now sg (slice_set sides i new) b)
   unfolding signed_by
-  appends-keeps kind sg b e f g = subst (Keeps d) (sym (sent-so kind sg b e f g))
-      (sent-keeps d (now signer sides book) (side_view s) kept at.own (op-of kind) (record { author = refl; wall = refl; seq = refl; view = refl }))
+  appends-keeps kind sg b made e f g = subst (Keeps d) (sym (sent-so kind sg b e f g))
+      (sent-keeps d (now signer sides book) (side_view s) kept at.own (op-of kind) (record { author = refl; wall = refl; seq = refl; view = refl; made = made }))
 
   own-signed : (kind : Kind) → IsValidNext signer (op_signed (unsigned book.user (side_view s) kind)) → IsAuthorSigned s.known.users (op-of kind)
   unfolding signed_by

@@ -3,6 +3,13 @@ ghost use Rattle.std.specs.Prelude.{◌≡◌, Err, Ok, Some, ℕ};
 ghost use Rattle.fr_bytes.specs.Bytes.{Text};
 ghost use Rattle.fr_digest.specs.Digest.{Digest};
 ghost use Rattle.msg_form.specs.declared.verdict.Verdict.{Verdict};
+ghost use Rattle.key_graph.specs.declared.change.Setting.{Setting};
+ghost use Rattle.key_graph.specs.Streams.{Use};
+ghost use Rattle.op_types.specs.declared.op.Op.{Op};
+ghost use Rattle.world_book.specs.declared.world.World.{World};
+ghost use Rattle.world_book.specs.Kept.{Kept};
+ghost use Rattle.world_book.specs.Records.{Signs};
+ghost use Rattle.client_core.specs.Uses.{IsMade, OpUses};
 ghost use Rattle.client_core.specs.declared.news.News.{News};
 ghost use Rattle.client_core.specs.declared.sent.Sent.{Sent};
 ghost use Rattle.client_core.specs.Asking.{Command};
@@ -30,4 +37,12 @@ pub fn replies()
     ensures rejected { (d : Digest) (c : ClientView) (sent : Sent) (bytes : Text) (verdict : Verdict)
         → Rejects d c sent bytes verdict → (s : SideView) → side_of sent.wall c.sides ≡ Some s
         → take d s sent.asked bytes ≡ Err verdict }
+{}
+
+/// No two operations on one wall that honest users signed use one stream of one key, where they are made by the rules, as
+/// a client's book has them. Within a change `key_graph` says it of its plan's wraps.
+pub fn streams()
+    ensures { (d : Digest) (w : World) → Kept d w → (setting : Setting) (of user other : ℕ) (x y : Op) (u : Use)
+        → Signs w user x → Signs w other y → x.wall ≡ y.wall → IsMade setting of x.author x.seq x.kind
+        → IsMade setting of y.author y.seq y.kind → OpUses setting x u → OpUses setting y u → x ≡ y }
 {}

@@ -5,7 +5,8 @@ ghost use Rattle.op_types.specs.Spelling.{IsKind};
 ghost use Rattle.msg_form.specs.declared.decline.Decline.TheVariants as declines;
 ghost use Rattle.client_core.specs.Asking.{admit, look, post, remove};
 ghost use Rattle.client_core.specs.Clients.{client_view, Appends, Asks, Declines, IsReady};
-ghost use Rattle.client_core.specs.Sides.{sides_view, HasSide, IsSide, side_of, side_view};
+ghost use Rattle.client_core.specs.Keeping.{HasKeys, IsMadeOn};
+ghost use Rattle.client_core.specs.Sides.{sides_view, HasSide, IsSide, SideView, side_of, side_view};
 
 use super::Client;
 use crate::sent::Sent;
@@ -24,6 +25,7 @@ impl<D: Digester> Client<D> {
         requires { HasSide wall (sides_view self.now.sides) }
         ensures value { side_of wall (sides_view self.now.sides) ≡ Some (side_view result.now) }
         ensures is_side { IsSide (side_view result.now) }
+        ensures keys { HasKeys self.now.book.user (side_view result.now) }
     {
         let place = place_of(&self.sides, wall);
         &self.sides[place]
@@ -33,6 +35,7 @@ impl<D: Digester> Client<D> {
     fn append(&mut self, alloc: Global, wall: u32, kind: Kind) -> Result<Sent, Decline>
         requires ready { IsReady (client_view self.old) wall }
         requires kind { IsKind kind }
+        requires made { (s : SideView) → side_of wall (sides_view self.old.sides) ≡ Some s → IsMadeOn self.old.book.user s kind }
         ensures appends { IfOk result (λ sent. Appends (client_view self.old) wall kind sent (client_view self.new)) }
         ensures declines { IfErr result (λ d. d ≡ declines.NoMemory) }
         ensures unchanged { OnErr result (client_view self.new ≡ client_view self.old) }

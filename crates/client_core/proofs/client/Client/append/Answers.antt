@@ -1,12 +1,13 @@
-use Rattle.std.proofs.Common.{◌≡◌, ◌∙◌, List, ap, sym, subst}
+use Rattle.std.proofs.Common.{◌≡◌, ◌∙◌, List, Some, ap, sym, subst}
 use Rattle.std.specs.Prelude.{IfOk, OnErr, Result, slice_set}
 use Rattle.msg_form.specs.declared.decline.Decline.{Decline}
 use Rattle.client_core.specs.declared.side.Side.{Side}
 use Rattle.client_core.specs.Clients.{Standing, client_view, Appends}
-use Rattle.client_core.specs.Sides.{HasSide, place_of, sides_view}
+use Rattle.client_core.specs.Sides.{HasSide, SideView, place_of, side_of, side_view, sides_view}
 use Rattle.client_core.proofs.Places.{at-place}
 use Rattle.client_core.specs.declared.sent.Sent.{Sent}
 use Rattle.client_core.proofs.Places.{has-side}
+use Rattle.client_core.specs.Keeping.{IsMadeOn}
 use Rattle.client_core.proofs.Steps.{appends, appends-keeps, now, still, unmoved}
 use Rattle.client_core.proofs.client.Client.append.Goals as goal
 use Rattle.client_core.proofs.client.Client.append.Goals.{in-Ok, in-Err}
@@ -23,6 +24,8 @@ invariant_of-self g c =
     let new = c.append.new.side in
     elim c.match-append.branch [
       | in-Ok w ↦ appends-keeps d old.signer old.sides.items old.book c.args.wall c.place_of-place.result s at c.self.invariant new c.args.kind c.append.new.signer c.append.new.book
+          (subst (λ (x : Standing). IsMadeOn x.book.user (side_view s) c.args.kind) (sym c.self.view_is)
+          (c.requires.made (side_view s) (subst (λ (x : Standing). side_of c.args.wall (sides_view x.sides) ≡ Some (side_view s)) c.self.view_is at.found)))
           w.in-Ok.ensures.signer w.in-Ok.ensures.side w.in-Ok.ensures.book
       | in-Err w ↦ still d old.signer old.sides.items old.book c.args.wall c.place_of-place.result s at c.self.invariant new c.append.new.signer c.append.new.book
           w.in-Err.ensures.same_signer w.in-Err.ensures.same_side w.in-Err.ensures.same_book
