@@ -1,21 +1,21 @@
 -- What a client keeps of itself stays so, whatever is asked and heard.
 use Rattle.std.proofs.Common.{◌≡◌, ◌∙◌, inl, inr, ℕ, suc, ◌+◌, ◌<◌, ◌≤◌, List, [], ◌∷◌, ◌++◌, map, Option, Some, None, Bool, true, false, refl, ap, sym, subst, arith, eq-eqb}
-use Rattle.std.specs.Prelude.{if◌then◌else◌, nat_eq, slice_get, slice_set}
+use Rattle.std.specs.Prelude.{if◌then◌else◌, find, is_some, nat_eq, slice_get, slice_set}
 use Rattle.std.specs.List.{AllByRecursion}
-use Rattle.std.proofs.lemmas.Bool.{cases_Bool, cond-true, cond-false, ne_eqb}
+use Rattle.std.proofs.lemmas.Bool.{cases_Bool, cond-true, cond-false, ne_eqb, eqb-true}
 use Rattle.std.proofs.lemmas.Bool.Decides.{eqb_tells}
 use Rattle.fr_bytes.proofs.Lists.{each-append}
 use Rattle.fr_digest.specs.Digest.{Digest}
 use Rattle.op_types.specs.declared.op.Leaf.{Leaf}
 use Rattle.op_types.specs.declared.op.Op.{Op}
 use Rattle.op_types.specs.declared.view.View.{View}
-use Rattle.lms_tree.specs.Signer.{Signing}
+use Rattle.lms_tree.specs.Signer.{Signing, public_of}
 use Rattle.lms_tree.specs.Valid.{Key}
 use Rattle.hist_proof.specs.declared.pruned.Pruned.{Pruned}
 use Rattle.hist_proof.specs.Pruned.{Tree}
 use Rattle.hist_proof.specs.View.{tree_view}
 use Rattle.pruned_list.specs.PrunedList.{PrunedList}
-use Rattle.signed_ops.specs.Signed.{once_more}
+use Rattle.signed_ops.specs.Signed.{key_of, once_more}
 use Rattle.fr_bytes.specs.Bytes.{Text}
 use Rattle.dict_proof.specs.declared.pruned_dict.PrunedDict.{PrunedDict}
 use Rattle.dict_proof.specs.View.{list_view}
@@ -33,11 +33,15 @@ use Rattle.world_book.proofs.Books.{took-kept, signed-kept}
 use Rattle.world_book.proofs.Chains.{last-in}
 use Rattle.world_book.proofs.Places.{fold-last}
 use Rattle.client_core.specs.declared.start.SideStart.{SideStart}
-use Rattle.client_core.specs.Clients.{AreStarts, ClientView, IsStart, having_sent, having_taken, opening_side, took_of, with_took}
-use Rattle.client_core.specs.Keeping.{IsSound, IsTaken, IsTold, Keeps, note_of_side, notes_of, users_of}
+use Rattle.client_core.specs.Clients.{AreStarts, ClientView, IsStart, having_sent, having_taken, opening_side, took_of, with_took, opening_keys}
+use Rattle.client_core.specs.Keeping.{AreMade, HasKeys, IsMadeOn, IsSound, IsTaken, IsTold, Keeps, note_of_side, notes_of, users_of}
 use Rattle.client_core.specs.Keys.{KeysView}
 use Rattle.client_core.specs.Sides.{IsSide, SideView, place_of, side_of, with_side}
 use Rattle.client_core.specs.Taking.{accepting_all}
+use Rattle.client_core.specs.Uses.{IsFitting, IsMade, IsOwners, IsSetting}
+use Rattle.client_core.specs.declared.start.Owned.{Owned}
+use Rattle.key_graph.specs.declared.change.Setting.{Setting}
+use Rattle.client_core.proofs.KeysHeld.{AreKeysOf, accepted-keys, keys-held, keys-setting}
 use Rattle.client_core.proofs.Places.{each-found, each-put, found-wall, put-found, put-map, put-other, put-same}
 
 -- ---- the last record of a wall
@@ -63,7 +67,7 @@ noted wall (x ∷ sides) s e = by (nat_eq x.known.wall wall) (noted wall sides s
     by true rest e' = let same : x ≡ s = cc in ap (λ (y : SideView). Some (note_of_side y)) same
     by false rest e' = rest e'
 
-put-users : (wall : ℕ) (t : SideView) (sides : List SideView) (s : SideView) → side_of wall sides ≡ Some s → t.known.users ≡ s.known.users
+pub put-users : (wall : ℕ) (t : SideView) (sides : List SideView) (s : SideView) → side_of wall sides ≡ Some s → t.known.users ≡ s.known.users
     → users_of (with_side wall t sides) ≡ users_of sides
 put-users wall t [] s e h = refl
 put-users wall t (x ∷ sides) s e h = by (nat_eq x.known.wall wall) e
@@ -80,7 +84,7 @@ all-more P Q (x ∷ xs) all f = (f x all.0, all-more P Q xs all.1 f)
 -- ---- a side in the place of another
 
 module _ (d : Digest) (c : ClientView) (s t : SideView) (kept : Keeps d c) (found : side_of s.known.wall c.sides ≡ Some s)
-    (note : note_of_side t ≡ note_of_side s) (users : t.known.users ≡ s.known.users) (is_side : IsSide t) where
+    (note : note_of_side t ≡ note_of_side s) (users : t.known.users ≡ s.known.users) (is_side : IsSide t) (has : HasKeys c.book.user t) where
   abbrev after : List SideView
   after = with_side s.known.wall t c.sides
 
@@ -103,16 +107,28 @@ module _ (d : Digest) (c : ClientView) (s t : SideView) (kept : Keeps d c) (foun
     | inr other ↦ others v o other.1 (sym (put-other s.known.wall v t c.sides wall other.1) ∙ e)
   ]
 
-  pub put-keeps : (signer : Signing) (book : UserBook) → KeptBook d (notes_of c.sides) (users_of c.sides) book
+  listed : (book : UserBook) → book.user ≡ c.book.user → book.key ≡ c.book.key
+      → (v : ℕ) (o : SideView) → side_of v c.sides ≡ Some o → key_of o.known.users book.user ≡ Some book.key
+  listed book user key v o e = ap (key_of o.known.users) user ∙ (kept.own v o e ∙ ap Some (sym key))
+
+  pub put-keeps : (signer : Signing) (book : UserBook) → book.user ≡ c.book.user → book.key ≡ c.book.key
+      → public_of signer.private signer.id signer.pair ≡ public_of c.signer.private c.signer.id c.signer.pair
+      → KeptBook d (notes_of c.sides) (users_of c.sides) book
       → (book.rogue ≡ false → IsTold book t)
       → (book.rogue ≡ false → (v : ℕ) (o : SideView) → (v ≡ s.known.wall → ⊥) → side_of v c.sides ≡ Some o → IsTold book o)
       → Keeps d (record { signer = signer; sides = after; book = book })
-  put-keeps signer book b this others = record {
+  put-keeps signer book user key public b this others = record {
     each = each-put IsSide s.known.wall t c.sides kept.each is_side;
     users = found-in (λ (o : SideView). o.known.users ≡ users_of after) (users ∙ (kept.users s.known.wall s found ∙ sym same-users))
         (λ v o ne e. kept.users v o e ∙ sym same-users);
     book = subst (λ (us : List (ℕ × Key)). KeptBook d (notes_of after) us book) (sym same-users)
         (subst (λ (ns : List WallNote). KeptBook d ns (users_of c.sides) book) (sym same-notes) b);
+    key = key ∙ (kept.key ∙ sym public);
+    own = found-in (λ (o : SideView). key_of o.known.users book.user ≡ Some book.key)
+        (ap (λ (us : List (ℕ × Key)). key_of us book.user) users ∙ listed book user key s.known.wall s found)
+        (λ v o ne e. listed book user key v o e);
+    keys = found-in (HasKeys book.user) (subst (λ (u : ℕ). HasKeys u t) (sym user) has)
+        (λ v o ne e. subst (λ (u : ℕ). HasKeys u o) (sym user) (kept.keys v o e));
     told = λ honest. found-in (IsTold book) (this honest) (others honest);
   }
 
@@ -121,14 +137,23 @@ not-both is isnt = absurd (let f = sym is ∙ isnt in cc)
 
 -- ---- changes that are learnt
 
-pub keys-keep : (d : Digest) (c : ClientView) (s : SideView) (keys : KeysView) → Keeps d c → side_of s.known.wall c.sides ≡ Some s
+same-made : (book : UserBook) (s t : SideView) → AreKeysOf s.keys t.keys → t.known.owner ≡ s.known.owner → t.known.wall ≡ s.known.wall
+    → AreMade book s → AreMade book t
+same-made book s t later owners walls made setting is =
+    subst (λ (w : ℕ). AllByRecursion (λ (o : Signed). o.op.wall ≡ w → IsMade setting t.known.owner o.op.author o.op.seq o.op.kind) book.signed) (sym walls)
+    (subst (λ (of : ℕ). AllByRecursion (λ (o : Signed). o.op.wall ≡ s.known.wall → IsMade setting of o.op.author o.op.seq o.op.kind) book.signed) (sym owners)
+    (made setting (keys-setting s.keys t.keys setting later is)))
+
+pub keys-keep : (d : Digest) (c : ClientView) (s : SideView) (keys : KeysView) → Keeps d c → side_of s.known.wall c.sides ≡ Some s → AreKeysOf s.keys keys
     → Keeps d (record c { sides = with_side s.known.wall (record s { keys = keys }) c.sides })
-keys-keep d c s keys kept found =
+keys-keep d c s keys kept found later =
     let t : SideView = record s { keys = keys } in
     let side = each-found IsSide s.known.wall c.sides s kept.each found in
     put-keeps d c s t kept found refl refl (record { few = side.few; view = side.view; size = side.size; root = side.root })
-    c.signer c.book kept.book
-    (λ honest. let told = kept.told honest s.known.wall s found in record { size = told.size; root = told.root; later = told.later })
+    (keys-held c.book.user s t later refl (kept.keys s.known.wall s found))
+    c.signer c.book refl refl refl kept.book
+    (λ honest. let told = kept.told honest s.known.wall s found in
+    record { size = told.size; root = told.root; made = same-made c.book s t later refl refl told.made; later = told.later })
     (λ honest v o ne e. kept.told honest v o e)
 
 -- ---- an operation that is sent
@@ -139,6 +164,7 @@ pub record IsNext (c : ClientView) (s : SideView) (op : Op) : Type 0 where
   pub wall : op.wall ≡ s.known.wall
   pub seq : op.seq ≡ s.next
   pub view : op.view ≡ s.view
+  pub made : IsMadeOn c.book.user s op.kind
 
 module _ (d : Digest) (c : ClientView) (s : SideView) (kept : Keeps d c) (found : side_of s.known.wall c.sides ≡ Some s)
     (op : Op) (next : IsNext c s op) where
@@ -178,36 +204,45 @@ module _ (d : Digest) (c : ClientView) (s : SideView) (kept : Keeps d c) (found 
   abbrev longer : UserBook
   longer = record c.book { signed = c.book.signed ++ entry ∷ [] }
 
+  this-made : (setting : Setting) → IsSetting s.keys setting → IsMade setting s.known.owner op.author op.seq op.kind
+  this-made setting is = subst (λ (n : ℕ). IsMade setting s.known.owner op.author n op.kind) (sym next.seq)
+      (subst (λ (u : ℕ). IsMade setting s.known.owner u s.next op.kind) (sym next.author) (next.made setting is))
+
   still-told : (o : SideView) (n : ℕ) → IsTold c.book o → o.next ≤ n → (op.wall ≡ o.known.wall → op.seq < n)
+      → (op.wall ≡ o.known.wall → (setting : Setting) → IsSetting o.keys setting → IsMade setting o.known.owner op.author op.seq op.kind)
       → IsTold longer (record o { next = n })
-  still-told o n told le last = record {
+  still-told o n told le last new = record {
     size = told.size;
     root = told.root;
+    made = λ setting is. each-append (λ (x : Signed). x.op.wall ≡ o.known.wall → IsMade setting o.known.owner x.op.author x.op.seq x.op.kind)
+        c.book.signed (entry ∷ []) (told.made setting is) ((λ e. new e setting is), tt);
     later = each-append (λ (x : Signed). x.op.wall ≡ o.known.wall → x.op.seq < n) c.book.signed (entry ∷ [])
         (all-more (λ (x : Signed). x.op.wall ≡ o.known.wall → x.op.seq < o.next) (λ (x : Signed). x.op.wall ≡ o.known.wall → x.op.seq < n)
         c.book.signed told.later (λ x h e. let less = h e in omega arith))
         (last, tt);
   }
 
-  put : (book : UserBook) → KeptBook d (notes_of c.sides) (users_of c.sides) book → (book.rogue ≡ false → IsTold book t)
+  put : (book : UserBook) → book.user ≡ c.book.user → book.key ≡ c.book.key → KeptBook d (notes_of c.sides) (users_of c.sides) book → (book.rogue ≡ false → IsTold book t)
       → (book.rogue ≡ false → (v : ℕ) (o : SideView) → (v ≡ s.known.wall → ⊥) → side_of v c.sides ≡ Some o → IsTold book o)
       → Keeps d (record { signer = once_more c.signer; sides = with_side s.known.wall t c.sides; book = book })
-  put book = put-keeps d c s t kept found refl refl (record { few = side.few; view = side.view; size = side.size; root = side.root })
-      (once_more c.signer) book
+  put book user key = put-keeps d c s t kept found refl refl (record { few = side.few; view = side.view; size = side.size; root = side.root })
+      (let has = kept.keys s.known.wall s found in record { owners = has.owners; fit = has.fit })
+      (once_more c.signer) book user key refl
 
   pub sent-keeps : Keeps d (having_sent c s (Some op))
   sent-keeps = elim (cases_Bool c.book.rogue) [
     | inl rogue ↦
         subst (λ (b : UserBook). Keeps d (record { signer = once_more c.signer; sides = with_side s.known.wall t c.sides; book = b }))
         (sym (cond-true c.book.rogue c.book longer rogue))
-        (put c.book kept.book (λ honest. not-both rogue honest) (λ honest v o ne e. not-both rogue honest))
+        (put c.book refl refl kept.book (λ honest. not-both rogue honest) (λ honest v o ne e. not-both rogue honest))
     | inr honest ↦
         let told = kept.told honest s.known.wall s found in
         subst (λ (b : UserBook). Keeps d (record { signer = once_more c.signer; sides = with_side s.known.wall t c.sides; book = b }))
         (sym (cond-false c.book.rogue c.book longer honest))
-        (put longer (signed-kept d (notes_of c.sides) (users_of c.sides) c.book entry kept.book honest (is-signed told))
-        (λ h. still-told s (s.next + 1) told (omega arith) (λ e. let same = next.seq in omega arith))
+        (put longer refl refl (signed-kept d (notes_of c.sides) (users_of c.sides) c.book entry kept.book honest (is-signed told))
+        (λ h. still-told s (s.next + 1) told (omega arith) (λ e. let same = next.seq in omega arith) (λ e. this-made))
         (λ h v o ne e. still-told o o.next (kept.told honest v o e) (omega arith)
+        (λ here. absurd (ne (sym (found-wall v c.sides o e) ∙ (sym here ∙ next.wall))))
         (λ here. absurd (ne (sym (found-wall v c.sides o e) ∙ (sym here ∙ next.wall))))))
   ]
 
@@ -235,6 +270,9 @@ module _ (d : Digest) (c : ClientView) (s : SideView) (kept : Keeps d c) (found 
     (is : IsTaken d s.known view from proof leaves dicts) where
   abbrev u : SideView
   u = accepting_all s view leaves
+
+  later : AreKeysOf s.keys u.keys
+  later = accepted-keys s.keys u.known.epoch leaves
 
   abbrev took : Took
   took = took_of c.book.user s view from proof leaves dicts
@@ -269,7 +307,12 @@ module _ (d : Digest) (c : ClientView) (s : SideView) (kept : Keeps d c) (found 
   this-told : IsTold c.book s → IsTold grown u
   this-told told =
       let here = last-here s.known.wall c.book.took took refl in
-      record { size = ap size_of (sym here); root = λ some. ap root_of (sym here); later = told.later }
+      record {
+        size = ap size_of (sym here);
+        root = λ some. ap root_of (sym here);
+        made = same-made c.book s u later refl refl told.made;
+        later = told.later;
+      }
 
   other-told : (o : SideView) → (s.known.wall ≡ o.known.wall → ⊥) → IsTold c.book o → IsTold grown o
   other-told o ne told =
@@ -277,31 +320,33 @@ module _ (d : Digest) (c : ClientView) (s : SideView) (kept : Keeps d c) (found 
       record {
         size = told.size ∙ ap size_of (sym same);
         root = λ some. told.root some ∙ ap root_of (sym same);
+        made = told.made;
         later = told.later;
       }
 
-  put-u : (book : UserBook) → KeptBook d (notes_of c.sides) (users_of c.sides) book → (book.rogue ≡ false → IsTold book u)
+  put-u : (book : UserBook) → book.user ≡ c.book.user → book.key ≡ c.book.key → KeptBook d (notes_of c.sides) (users_of c.sides) book → (book.rogue ≡ false → IsTold book u)
       → (book.rogue ≡ false → (v : ℕ) (o : SideView) → (v ≡ s.known.wall → ⊥) → side_of v c.sides ≡ Some o → IsTold book o)
       → Keeps d (record { signer = c.signer; sides = with_side s.known.wall u c.sides; book = book })
-  put-u book = put-keeps d c s u kept found refl refl
+  put-u book user key = put-keeps d c s u kept found refl refl
       (record {
         few = (each-found IsSide s.known.wall c.sides s kept.each found).few;
         view = is.view_is;
         size = refl;
         root = λ some. refl;
-      }) c.signer book
+      })
+      (keys-held c.book.user s u later refl (kept.keys s.known.wall s found)) c.signer book user key refl
 
   record-keeps : Keeps d (record { signer = c.signer; sides = with_side s.known.wall u c.sides; book = with_took c.book took })
   record-keeps = elim (cases_Bool c.book.rogue) [
     | inl rogue ↦
         subst (λ (b : UserBook). Keeps d (record { signer = c.signer; sides = with_side s.known.wall u c.sides; book = b }))
         (sym (cond-true c.book.rogue c.book grown rogue))
-        (put-u c.book kept.book (λ honest. not-both rogue honest) (λ honest v o ne e. not-both rogue honest))
+        (put-u c.book refl refl kept.book (λ honest. not-both rogue honest) (λ honest v o ne e. not-both rogue honest))
     | inr honest ↦
         let told = kept.told honest s.known.wall s found in
         subst (λ (b : UserBook). Keeps d (record { signer = c.signer; sides = with_side s.known.wall u c.sides; book = b }))
         (sym (cond-false c.book.rogue c.book grown honest))
-        (put-u grown (took-kept d (notes_of c.sides) (users_of c.sides) c.book took kept.book honest (is-record told))
+        (put-u grown refl refl (took-kept d (notes_of c.sides) (users_of c.sides) c.book took kept.book honest (is-record told))
         (λ h. this-told told)
         (λ h v o ne e. other-told o (λ here. ne (sym (here ∙ found-wall v c.sides o e))) (kept.told honest v o e)))
   ]
@@ -330,7 +375,8 @@ none-told : (book : UserBook) (s : SideView) → book.took ≡ [] → book.signe
 none-told book s t o z = record {
   size = z ∙ ap (λ (ts : List Took). size_of (last_on s.known.wall ts)) (sym t);
   root = λ some. absurd (omega arith);
-  later = subst (AllByRecursion (λ (o : Signed). o.op.wall ≡ s.known.wall → o.op.seq < s.next)) (sym o) tt;
+  made = λ setting is. subst (AllByRecursion (λ (x : Signed). x.op.wall ≡ s.known.wall → IsMade setting s.known.owner x.op.author x.op.seq x.op.kind)) (sym o) tt;
+  later = subst (AllByRecursion (λ (x : Signed). x.op.wall ≡ s.known.wall → x.op.seq < s.next)) (sym o) tt;
 }
 
 none-kept : (d : Digest) (notes : List WallNote) (keys : List (ℕ × Key)) (user : ℕ) (key : Key) (rogue : Bool)
@@ -341,18 +387,36 @@ none-kept d notes keys user key rogue = record {
   rogue = λ is. (refl, refl);
 }
 
+opening-has : (user wall depth : ℕ) (secret : Text) (of : ℕ) (owned : Option Owned) → is_some owned ≡ nat_eq user of
+    → IsOwners user of (opening_keys user wall depth secret owned) × IsFitting (opening_keys user wall depth secret owned)
+opening-has user w depth secret of None e = (tt, tt)
+opening-has user w depth secret of (Some owned) e = (eqb-true user of (sym e), tt)
+
+start-has : (user : ℕ) (start : SideStart) → IsStart user start → HasKeys user (opening_side user start)
+start-has user start is =
+    let both = opening-has user start.known.wall start.depth start.secret start.known.owner start.owned is.owned in
+    record { owners = both.0; fit = both.1 }
+
 pub opening-keeps : (d : Digest) (signer : Signing) (user : ℕ) (key : Key) (rogue : Bool) (starts : List SideStart) → AreStarts user key starts
+    → key ≡ public_of signer.private signer.id signer.pair
     → AllByRecursion IsSide (map (opening_side user) starts)
     → Keeps d (record {
       signer = signer;
       sides = map (opening_side user) starts;
       book = record { user = user; key = key; rogue = rogue; took = []; signed = [] };
     })
-opening-keeps d signer user key rogue starts are sides = record {
+opening-keeps d signer user key rogue starts are public sides = record {
   each = sides;
   users = λ wall s. users-are are.keys wall (map (opening_side user) starts) s
       (all-mapped (opening_side user) (λ (x : SideStart). x.known.users ≡ are.keys) (λ (x : SideView). x.known.users ≡ are.keys) starts are.same (λ x e. e));
   book = none-kept d (notes_of (map (opening_side user) starts)) (users_of (map (opening_side user) starts)) user key rogue;
+  key = public;
+  own = λ wall s found. ap (λ (us : List (ℕ × Key)). key_of us user)
+      (each-found (λ (x : SideView). x.known.users ≡ are.keys) wall (map (opening_side user) starts) s
+      (all-mapped (opening_side user) (λ (x : SideStart). x.known.users ≡ are.keys) (λ (x : SideView). x.known.users ≡ are.keys) starts are.same (λ x e. e)) found)
+      ∙ are.own;
+  keys = λ wall s found. each-found (HasKeys user) wall (map (opening_side user) starts) s
+      (all-mapped (opening_side user) (IsStart user) (HasKeys user) starts are.each (start-has user)) found;
   told = λ honest wall s found. none-told (record { user = user; key = key; rogue = rogue; took = []; signed = [] }) s refl refl
       (each-found (λ (x : SideView). x.known.size ≡ 0) wall (map (opening_side user) starts) s
       (all-mapped (opening_side user) (IsStart user) (λ (x : SideView). x.known.size ≡ 0) starts are.each (λ x h. h.size)) found);

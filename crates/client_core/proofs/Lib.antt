@@ -5,3 +5,6 @@ pub mod Texts
 pub mod Keeping
 pub mod Asked
 pub mod Steps
+pub mod Walls
+pub mod KeysHeld
+pub mod Streams

@@ -1,11 +1,16 @@
 -- A client after what its calls do with the side of a wall.
 use Rattle.std.proofs.Common.{◌≡◌, ◌∙◌, ℕ, ◌+◌, List, Some, refl, ap, sym, subst}
-use Rattle.std.specs.Prelude.{slice_set}
+use Rattle.std.specs.Prelude.{IfSome, slice_set}
+use Rattle.fr_bytes.specs.Bytes.{Text}
 use Rattle.fr_digest.specs.Digest.{Digest}
 use Rattle.op_types.specs.declared.kind.Kind.{Kind}
 use Rattle.op_types.specs.declared.op.Op.{Op}
-use Rattle.lms_tree.specs.Signer.{Signing}
-use Rattle.signed_ops.specs.Signed.{once_more, signed_by}
+use Rattle.op_types.specs.Spelling.{op_signed}
+use Rattle.lms_tree.specs.Signer.{Signing, public_of}
+use Rattle.lms_tree.specs.Valid.{Valid}
+use Rattle.signed_ops.specs.Signed.{IsAuthorSigned, once_more, signed_by}
+use Rattle.signed_ops.proofs.Signatures.{unsigned_by}
+use Rattle.client_core.specs.Signing.{IsValidNext}
 use Rattle.check_core.specs.declared.checked.Checked.{Checked}
 use Rattle.check_core.specs.View.{checked_view}
 use Rattle.world_book.specs.declared.book.UserBook.{UserBook}
@@ -14,7 +19,8 @@ use Rattle.client_core.specs.declared.sent.Sent.{Sent}
 use Rattle.client_core.specs.declared.side.Side.{Side}
 use Rattle.client_core.specs.Asking.{sent_of, unsigned}
 use Rattle.client_core.specs.Clients.{Appends, ClientView, Learns, Makes, book_after, client_view, having_sent, having_taken, with_signed}
-use Rattle.client_core.specs.Keeping.{IsSound, Keeps}
+use Rattle.client_core.specs.Keeping.{IsMadeOn, IsSound, Keeps}
+use Rattle.client_core.proofs.KeysHeld.{relearnt-keys}
 use Rattle.client_core.specs.Sides.{SideView, side_view, sides_view, with_side}
 use Rattle.client_core.specs.Taking.{news_of, relearnt, side_after}
 use Rattle.client_core.proofs.Keeping.{keys-keep, sent-keeps, taken-keeps}
@@ -62,7 +68,8 @@ module _ (d : Digest) (signer : Signing) (sides : List Side) (book : UserBook) (
 
   pub learns-keeps : (changes : List Op) → side_view new ≡ relearnt (side_view s) changes → Keeps d (now signer (slice_set sides i new) book)
   learns-keeps changes e = subst (Keeps d) (sym (learns-so changes e))
-      (keys-keep d (now signer sides book) (side_view s) (relearnt (side_view s) changes).keys kept at.own)
+      (keys-keep d (now signer sides book) (side_view s) (relearnt (side_view s) changes).keys kept at.own
+      (relearnt-keys (side_view s).keys changes))
 
   pub learns : (changes : List Op) → side_view new ≡ relearnt (side_view s) changes
       → Learns (now signer sides book) wall changes (now signer (slice_set sides i new) book)
@@ -78,19 +85,30 @@ module _ (d : Digest) (signer : Signing) (sides : List Side) (book : UserBook) (
       → now sg (slice_set sides i new) b ≡ having_sent (now signer sides book) (side_view s) (Some (op-of kind))
   sent-so kind sg b e f g = put-so sg (once_more signer) b (with_signed book (op-of kind)) (record (side_view s) { next = s.next + 1 }) e f g
 
-  pub appends-keeps : (kind : Kind) (sg : Signing) (b : UserBook) → sg ≡ once_more signer → side_view new ≡ record (side_view s) { next = s.next + 1 }
+  pub appends-keeps : (kind : Kind) (sg : Signing) (b : UserBook) → IsMadeOn book.user (side_view s) kind → sg ≡ once_more signer → side_view new ≡ record (side_view s) { next = s.next + 1 }
       → b ≡ with_signed book (op-of kind) → Keeps d (now sg (slice_set sides i new) b)
   unfolding signed_by
-  appends-keeps kind sg b e f g = subst (Keeps d) (sym (sent-so kind sg b e f g))
-      (sent-keeps d (now signer sides book) (side_view s) kept at.own (op-of kind) (record { author = refl; wall = refl; seq = refl; view = refl }))
+  appends-keeps kind sg b made e f g = subst (Keeps d) (sym (sent-so kind sg b e f g))
+      (sent-keeps d (now signer sides book) (side_view s) kept at.own (op-of kind) (record { author = refl; wall = refl; seq = refl; view = refl; made = made }))
 
-  pub appends : (kind : Kind) (sg : Signing) (b : UserBook) (sent : Sent) → sent ≡ sent_of s.known.size (op-of kind) → sg ≡ once_more signer
+  own-signed : (kind : Kind) → IsValidNext signer (op_signed (unsigned book.user (side_view s) kind)) → IsAuthorSigned s.known.users (op-of kind)
+  unfolding signed_by
+  own-signed kind valid = record {
+    key = public_of signer.private signer.id signer.pair;
+    listed = kept.own wall (side_view s) at.found ∙ ap Some kept.key;
+    valid = subst (λ (m : Text). Valid (public_of signer.private signer.id signer.pair) m (op-of kind).sig)
+        (sym (unsigned_by (unsigned book.user (side_view s) kind) (op-of kind).sig)) valid;
+  }
+
+  pub appends : (kind : Kind) (sg : Signing) (b : UserBook) (sent : Sent) → sent ≡ sent_of s.known.size (op-of kind)
+      → IsValidNext signer (op_signed (unsigned book.user (side_view s) kind)) → sg ≡ once_more signer
       → side_view new ≡ record (side_view s) { next = s.next + 1 } → b ≡ with_signed book (op-of kind)
       → Appends (now signer sides book) wall kind sent (now sg (slice_set sides i new) b)
   unfolding sent_of
-  appends kind sg b sent m e f g = record {
+  appends kind sg b sent m valid e f g = record {
     side = side_view s;
     found = at.found;
     sent_is = m;
+    signed = subst (λ (x : Sent). IfSome x.signed (IsAuthorSigned s.known.users)) (sym m) (own-signed kind valid);
     after_is = sent-so kind sg b e f g ∙ ap (having_sent (now signer sides book) (side_view s)) (sym (ap (λ (x : Sent). x.signed) m));
   }

@@ -21,7 +21,7 @@ use Rattle.msg_form.specs.declared.message.Request.TheVariants as requests
 use Rattle.msg_form.specs.Messages.{request_text}
 use Rattle.check_rules.specs.declared.asked.Asked.TheVariants as asks
 use Rattle.client_core.specs.declared.sent.Sent.{Sent}
-use Rattle.client_core.specs.Keys.{owner, member, held, leaf_of, root_key}
+use Rattle.client_core.specs.Keys.{KeysView, owner, member, held, leaf_of, root_key}
 use Rattle.client_core.specs.Sides.{SideView}
 
 -- what a user would have a client ask of a wall
@@ -92,15 +92,16 @@ abbrev pub kind_planned : Wish → Result (ℕ × List Wrap) PlanRefusal → Res
 kind_planned wish (Ok plan) = Ok (kind_with wish plan.0 plan.1)
 kind_planned wish (Err refusal) = Err (plan_decline refusal)
 
+abbrev pub changed_by : SideView → Wish → KeysView → Result Kind Decline
+changed_by s wish (member book) = Err declines.NotOwner
+changed_by s wish (owner tree secrets) =
+    if nat_lt (held s.keys) s.known.epoch then Err declines.NotMember
+    else if nat_eq (whom wish) s.known.owner then Err (owner_decline wish)
+    else kind_planned wish (planned tree (s.next + 1) (key_change tree secrets wish))
+
 -- The slot and the wraps are those that the owner's tree plans for the generation behind the operation's number.
 unfoldable pub changed : SideView → Wish → Result Kind Decline
-changed s wish = elim s.keys [
-  | member book ↦ Err declines.NotOwner
-  | owner tree secrets ↦
-      if nat_lt (held s.keys) s.known.epoch then Err declines.NotMember
-      else if nat_eq (whom wish) s.known.owner then Err (owner_decline wish)
-      else kind_planned wish (planned tree (s.next + 1) (key_change tree secrets wish))
-]
+changed s wish = changed_by s wish s.keys
 
 -- ---- operations
 

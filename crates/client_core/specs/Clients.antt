@@ -1,5 +1,5 @@
 -- A client, and what its calls make of it.
-use Rattle.std.specs.Prelude.{◌≡◌, ℕ, ◌+◌, ◌<◌, ◌≤◌, ◌^◌, List, [], ◌∷◌, ◌++◌, map, Option, Some, None, Ok, Err, is_some, nat_eq, option_and_then, if◌then◌else◌}
+use Rattle.std.specs.Prelude.{◌≡◌, ℕ, ◌+◌, ◌<◌, ◌≤◌, ◌^◌, List, [], ◌∷◌, ◌++◌, map, Option, Some, None, Ok, Err, is_some, nat_eq, option_and_then, if◌then◌else◌, IfSome}
 use Rattle.std.specs.List.{AllByRecursion, IsDistinct}
 use Rattle.fr_bytes.specs.Bytes.{Text}
 use Rattle.fr_digest.specs.Digest.{Digest}
@@ -13,7 +13,7 @@ use Rattle.lms_tree.specs.Signer.{Signing}
 use Rattle.lms_tree.specs.Valid.{Key}
 use Rattle.key_graph.specs.KeyBook.{new_book}
 use Rattle.key_graph.specs.KeyTree.{leaf_text}
-use Rattle.signed_ops.specs.Signed.{key_of, once_more, signed_by}
+use Rattle.signed_ops.specs.Signed.{IsAuthorSigned, key_of, once_more, signed_by}
 use Rattle.hist_proof.specs.declared.pruned.Pruned.{Pruned}
 use Rattle.dict_proof.specs.declared.pruned_dict.PrunedDict.{PrunedDict}
 use Rattle.check_rules.specs.Verdict.{judged, keys_judged}
@@ -99,11 +99,12 @@ pub record IsReady (c : ClientView) (wall : ℕ) : Type 0 where
   pub number : side.next ≤ SEQ_MAX
   pub leaf : c.signer.used < 2 ^ c.signer.pair.lms.h
 
--- A client asks by the plain client's rule, and is then as that client is.
+-- A client asks by the plain client's rule, and is then as that client is. What it signed for it is signed under its key.
 pub record Asks (before : ClientView) (wall : ℕ) (command : Command) (sent : Sent) (after : ClientView) : Type 0 where
   pub side : SideView
   pub found : side_of wall before.sides ≡ Some side
   pub asked : ask before.signer before.book.user side command ≡ Ok sent
+  pub signed : IfSome sent.signed (IsAuthorSigned side.known.users)
   pub after_is : after ≡ having_sent before side sent.signed
 
 -- A client has signed an operation of this kind for the wall, and sends it.
@@ -111,6 +112,7 @@ pub record Appends (before : ClientView) (wall : ℕ) (kind : Kind) (sent : Sent
   pub side : SideView
   pub found : side_of wall before.sides ≡ Some side
   pub sent_is : sent ≡ sent_of side.known.size (signed_by before.signer (unsigned before.book.user side kind))
+  pub signed : IfSome sent.signed (IsAuthorSigned side.known.users)
   pub after_is : after ≡ having_sent before side sent.signed
 
 -- The operation that is sent to a wall of which so many positions are accepted has a spelling, and so has the request

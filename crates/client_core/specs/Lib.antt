@@ -1,6 +1,7 @@
 pub mod Keys
 pub mod Sides
 pub mod Asking
+pub mod Uses
 pub mod Signing
 pub mod Taking
 pub mod Clients

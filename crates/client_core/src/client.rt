@@ -1,7 +1,7 @@
-ghost use Rattle.std.specs.Prelude.{◌≡◌};
+ghost use Rattle.std.specs.Prelude.{◌≡◌, false, Some, ℕ};
 ghost use Rattle.world_book.specs.Kept.{KeptBook};
-ghost use Rattle.client_core.specs.Keeping.{notes_of, users_of};
-ghost use Rattle.client_core.specs.Sides.{sides_view};
+ghost use Rattle.client_core.specs.Keeping.{AreMade, notes_of, users_of};
+ghost use Rattle.client_core.specs.Sides.{SideView, side_of, sides_view};
 
 use crate::side::Side;
 use fr_digest::Digester;
@@ -43,19 +43,22 @@ impl<D: Digester> Model for Client<D> {
 }
 
 impl<D: Digester> Client<D> {
-    /// The user's book, which is kept with the notes and the users of the client's walls. Takes no memory.
+    /// The user's book, which is kept with the notes and the users of the client's walls. Each operation in it is made by
+    /// the rules. Takes no memory.
     pub fn book(&self) -> &UserBook
         ensures value { result.now ≡ self.now.book }
         ensures kept { KeptBook D.digest_of (notes_of (sides_view self.now.sides)) (users_of (sides_view self.now.sides)) result.now }
+        ensures made { result.now.rogue ≡ false → (wall : ℕ) (s : SideView) → side_of wall (sides_view self.now.sides) ≡ Some s → AreMade result.now s }
     {
         &self.book
     }
 
-    /// The user's book, when the client ends. It is kept with the notes and the users of the client's walls. Takes no
-    /// memory.
+    /// The user's book, when the client ends. It is kept with the notes and the users of the client's walls, and each
+    /// operation in it is made by the rules. Takes no memory.
     pub fn end(self) -> UserBook
         ensures value { result ≡ self.book }
         ensures kept { KeptBook D.digest_of (notes_of (sides_view self.sides)) (users_of (sides_view self.sides)) result }
+        ensures made { result.rogue ≡ false → (wall : ℕ) (s : SideView) → side_of wall (sides_view self.sides) ≡ Some s → AreMade result s }
     {
         self.book
     }

@@ -4,6 +4,7 @@
 
 mod client;
 mod keys;
+pub mod laws;
 mod news;
 mod sent;
 mod side;

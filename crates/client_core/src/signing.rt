@@ -5,7 +5,7 @@ ghost use Rattle.fr_bytes.specs.Bytes.{IsBytes};
 ghost use Rattle.fr_bytes.specs.Parts.{IsLimited};
 ghost use Rattle.lms_tree.specs.Signer.{signature_at};
 ghost use Rattle.op_types.specs.declared.limits.TheConstants.{SEQ_MAX, SIGNATURE_BYTES_MAX};
-ghost use Rattle.op_types.specs.Spelling.{IsKind, IsOp, op_text};
+ghost use Rattle.op_types.specs.Spelling.{IsKind, IsOp, op_signed, op_text};
 ghost use Rattle.msg_form.specs.declared.message.Request.TheVariants as requests;
 ghost use Rattle.msg_form.specs.Messages.{request_text};
 ghost use Rattle.signed_ops.specs.Signed.{once_more, signed_by, with_sig};
@@ -14,7 +14,7 @@ ghost use Rattle.op_types.specs.declared.op.Op.{Op};
 ghost use Rattle.client_core.specs.Asking.{sent_of, unsigned};
 ghost use Rattle.client_core.specs.Clients.{IsSendable, with_signed};
 ghost use Rattle.client_core.specs.Sides.{IsSide, side_view};
-ghost use Rattle.client_core.specs.Signing.{IsDraft, IsRoom};
+ghost use Rattle.client_core.specs.Signing.{IsDraft, IsRoom, IsValidNext};
 
 use crate::sent::Sent;
 use crate::side::Side;
@@ -170,6 +170,7 @@ fn signature(signer: &mut Signer, message: &[u8]) -> Result<Bytes, NoMemory>
     ensures value { IfOk result (λ sig. sig ≡ signature_at signer.old.private signer.old.id signer.old.pair signer.old.used message.now) }
     ensures length { IfOk result (λ sig. length sig ≡ 8 + signer.old.pair.ots.sig_len + 32 * signer.old.pair.lms.h) }
     ensures bytes { IfOk result IsBytes }
+    ensures valid { OnOk result (IsValidNext signer.old message.now) }
     ensures used { OnOk result (signer.new ≡ once_more signer.old) }
     ensures unchanged { OnErr result (signer.new ≡ signer.old) }
 {
@@ -196,6 +197,7 @@ fn sign_draft(
     requires room { length draft.op.sig ≡ 8 + signer.old.pair.ots.sig_len + 32 * signer.old.pair.lms.h }
     ensures sent { IfOk result (λ sent. sent ≡ sent_of draft.have (with_sig draft.op (signature_at signer.old.private signer.old.id signer.old.pair signer.old.used message.now))) }
     ensures spelled { OnOk result (IsSendable draft.have (Some (with_sig draft.op (signature_at signer.old.private signer.old.id signer.old.pair signer.old.used message.now)))) }
+    ensures valid { OnOk result (IsValidNext signer.old message.now) }
     ensures signer { OnOk result (signer.new ≡ once_more signer.old) }
     ensures book { OnOk result (book.new ≡ with_signed book.old (with_sig draft.op (signature_at signer.old.private signer.old.id signer.old.pair signer.old.used message.now))) }
     ensures same_signer { OnErr result (signer.new ≡ signer.old) }
@@ -227,6 +229,7 @@ pub(crate) fn sign(
     requires leaf { signer.old.used < 2 ^ signer.old.pair.lms.h }
     ensures sent { IfOk result (λ sent. sent ≡ sent_of have (signed_by signer.old op)) }
     ensures spelled { OnOk result (IsSendable have (Some (signed_by signer.old op))) }
+    ensures valid { OnOk result (IsValidNext signer.old (op_signed op)) }
     ensures signer { OnOk result (signer.new ≡ once_more signer.old) }
     ensures book { OnOk result (book.new ≡ with_signed book.old (signed_by signer.old op)) }
     ensures same_signer { OnErr result (signer.new ≡ signer.old) }
@@ -258,6 +261,7 @@ pub(crate) fn append(
     requires kind { IsKind kind }
     ensures sent { IfOk result (λ sent. sent ≡ sent_of side.old.known.size (signed_by signer.old (unsigned book.old.user (side_view side.old) kind))) }
     ensures spelled { OnOk result (IsSendable side.old.known.size (Some (signed_by signer.old (unsigned book.old.user (side_view side.old) kind)))) }
+    ensures valid { OnOk result (IsValidNext signer.old (op_signed (unsigned book.old.user (side_view side.old) kind))) }
     ensures signer { OnOk result (signer.new ≡ once_more signer.old) }
     ensures side { OnOk result (side_view side.new ≡ record (side_view side.old) { next = side.old.next + 1 }) }
     ensures book { OnOk result (book.new ≡ with_signed book.old (signed_by signer.old (unsigned book.old.user (side_view side.old) kind))) }

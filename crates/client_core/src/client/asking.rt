@@ -4,9 +4,14 @@ ghost use Rattle.op_types.specs.Roles.{may_be_given};
 ghost use Rattle.op_types.specs.Spelling.{IsKind};
 ghost use Rattle.msg_form.specs.declared.decline.Decline.TheVariants as declines;
 ghost use Rattle.client_core.specs.Asking.{admit, look, post, remove};
+<<<<<<< HEAD
 ghost use Rattle.client_core.specs.Clients.{client_view, Appends, Asks, Declines, IsReady, IsSendable};
 ghost use Rattle.msg_form.specs.declared.message.Request.TheVariants as requests;
 ghost use Rattle.msg_form.specs.Messages.{IsRequest};
+=======
+ghost use Rattle.client_core.specs.Clients.{client_view, Appends, Asks, Declines, IsReady};
+ghost use Rattle.client_core.specs.Keeping.{HasKeys, IsMadeOn};
+>>>>>>> b7504cfc3b27b2dfd788fa16231a4a0e5afe4280
 ghost use Rattle.client_core.specs.Sides.{sides_view, HasSide, IsSide, SideView, side_of, side_view};
 
 use super::Client;
@@ -26,6 +31,7 @@ impl<D: Digester> Client<D> {
         requires { HasSide wall (sides_view self.now.sides) }
         ensures value { side_of wall (sides_view self.now.sides) ≡ Some (side_view result.now) }
         ensures is_side { IsSide (side_view result.now) }
+        ensures keys { HasKeys self.now.book.user (side_view result.now) }
     {
         let place = place_of(&self.sides, wall);
         &self.sides[place]
@@ -35,6 +41,7 @@ impl<D: Digester> Client<D> {
     fn append(&mut self, alloc: Global, wall: u32, kind: Kind) -> Result<Sent, Decline>
         requires ready { IsReady (client_view self.old) wall }
         requires kind { IsKind kind }
+        requires made { (s : SideView) → side_of wall (sides_view self.old.sides) ≡ Some s → IsMadeOn self.old.book.user s kind }
         ensures appends { IfOk result (λ sent. Appends (client_view self.old) wall kind sent (client_view self.new)) }
         ensures spelled { IfOk result (λ sent. (s : SideView) → side_of wall (sides_view self.old.sides) ≡ Some s
             → IsSendable s.known.size sent.signed) }

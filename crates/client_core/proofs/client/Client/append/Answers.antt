@@ -1,3 +1,4 @@
+<<<<<<< HEAD
 use Rattle.std.proofs.Common.{◌≡◌, ◌∙◌, List, Option, Some, ap, sym, subst}
 use Rattle.std.specs.Prelude.{IfOk, OnErr, Result, slice_set}
 use Rattle.msg_form.specs.declared.decline.Decline.{Decline}
@@ -5,10 +6,18 @@ use Rattle.client_core.specs.declared.side.Side.{Side}
 use Rattle.op_types.specs.declared.op.Op.{Op}
 use Rattle.client_core.specs.Asking.{sent_of}
 use Rattle.client_core.specs.Clients.{Standing, client_view, Appends, IsSendable}
+=======
+use Rattle.std.proofs.Common.{◌≡◌, ◌∙◌, List, Some, ap, sym, subst}
+use Rattle.std.specs.Prelude.{IfOk, OnErr, Result, slice_set}
+use Rattle.msg_form.specs.declared.decline.Decline.{Decline}
+use Rattle.client_core.specs.declared.side.Side.{Side}
+use Rattle.client_core.specs.Clients.{Standing, client_view, Appends}
+>>>>>>> b7504cfc3b27b2dfd788fa16231a4a0e5afe4280
 use Rattle.client_core.specs.Sides.{HasSide, SideView, place_of, side_of, side_view, sides_view}
 use Rattle.client_core.proofs.Places.{at-place}
 use Rattle.client_core.specs.declared.sent.Sent.{Sent}
 use Rattle.client_core.proofs.Places.{has-side}
+use Rattle.client_core.specs.Keeping.{IsMadeOn}
 use Rattle.client_core.proofs.Steps.{appends, appends-keeps, now, still, unmoved}
 use Rattle.client_core.proofs.client.Client.append.Goals as goal
 use Rattle.client_core.proofs.client.Client.append.Goals.{in-Ok, in-Err}
@@ -25,6 +34,8 @@ invariant_of-self g c =
     let new = c.append.new.side in
     elim c.match-append.branch [
       | in-Ok w ↦ appends-keeps d old.signer old.sides.items old.book c.args.wall c.place_of-place.result s at c.self.invariant new c.args.kind c.append.new.signer c.append.new.book
+          (subst (λ (x : Standing). IsMadeOn x.book.user (side_view s) c.args.kind) (sym c.self.view_is)
+          (c.requires.made (side_view s) (subst (λ (x : Standing). side_of c.args.wall (sides_view x.sides) ≡ Some (side_view s)) c.self.view_is at.found)))
           w.in-Ok.ensures.signer w.in-Ok.ensures.side w.in-Ok.ensures.book
       | in-Err w ↦ still d old.signer old.sides.items old.book c.args.wall c.place_of-place.result s at c.self.invariant new c.append.new.signer c.append.new.book
           w.in-Err.ensures.same_signer w.in-Err.ensures.same_side w.in-Err.ensures.same_book
@@ -46,7 +57,7 @@ returns-clause-appends g c =
           (sym w.result-is)
           (subst (λ (x : Standing). Appends (client_view x) c.args.wall c.args.kind w.in-Ok.sent after) c.self.view_is
           (appends d old.signer old.sides.items old.book c.args.wall c.place_of-place.result s at c.self.invariant new c.args.kind c.append.new.signer c.append.new.book w.in-Ok.sent
-          w.in-Ok.ensures.sent w.in-Ok.ensures.signer w.in-Ok.ensures.side w.in-Ok.ensures.book))
+          w.in-Ok.ensures.sent w.in-Ok.ensures.valid w.in-Ok.ensures.signer w.in-Ok.ensures.side w.in-Ok.ensures.book))
       | in-Err w ↦ subst (λ (r : Result Sent Decline). IfOk r (λ sent. Appends (client_view c.args.self.now) c.args.wall c.args.kind sent after))
           (sym w.result-is) tt
     ]

@@ -1,4 +1,4 @@
-use Rattle.std.proofs.Common.{◌∙◌, [], List, map, sym, subst, ap}
+use Rattle.std.proofs.Common.{◌∙◌, [], List, map, sym, subst, ap, refl}
 use Rattle.std.specs.List.{AllByRecursion}
 use Rattle.lms_tree.specs.Signer.{public_of}
 use Rattle.lms_tree.specs.Valid.{Key}
@@ -18,5 +18,5 @@ invariant_of-result g c =
     subst (λ (v : List SideView). Keeps d (record { signer = signer; sides = v; book = c.empty-book.result })) (sym sides)
     (subst (λ (b : UserBook). Keeps d (record { signer = signer; sides = map (opening_side c.args.user) c.args.sides.items; book = b }))
     (sym (c.empty-book.ensures ∙ ap (λ (k : Key). book k) c.public.ensures))
-    (opening-keeps d signer c.args.user (public_of signer.private signer.id signer.pair) c.args.rogue c.args.sides.items c.requires
+    (opening-keeps d signer c.args.user (public_of signer.private signer.id signer.pair) c.args.rogue c.args.sides.items c.requires refl
     (subst (AllByRecursion IsSide) sides c.in_ok-sides.ensures.are_sides)))
