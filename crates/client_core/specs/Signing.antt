@@ -1,16 +1,10 @@
 -- Room for an operation's signature: in the texts that will hold it, and in the user's book.
-<<<<<<< HEAD
 use Rattle.std.specs.Prelude.{◌≡◌, ◌<◌, ◌^◌, true, false, [], ◌∷◌, ◌++◌, Option, Some, None}
-use Rattle.op_types.specs.declared.op.Op.{Op}
-use Rattle.op_types.specs.Spelling.{IsOp, op_text}
-=======
-use Rattle.std.specs.Prelude.{◌≡◌, true, false, [], ◌∷◌, ◌++◌, Option, Some, None}
 use Rattle.fr_bytes.specs.Bytes.{Text}
 use Rattle.op_types.specs.declared.op.Op.{Op}
-use Rattle.op_types.specs.Spelling.{op_text}
+use Rattle.op_types.specs.Spelling.{IsOp, op_text}
 use Rattle.lms_tree.specs.Signer.{Signing, public_of, signature_at}
 use Rattle.lms_tree.specs.Valid.{Valid}
->>>>>>> b7504cfc3b27b2dfd788fa16231a4a0e5afe4280
 use Rattle.msg_form.specs.declared.message.Request.TheVariants as requests
 use Rattle.msg_form.specs.Messages.{request_text}
 use Rattle.world_book.specs.declared.book.UserBook.{UserBook}

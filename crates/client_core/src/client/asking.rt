@@ -4,14 +4,10 @@ ghost use Rattle.op_types.specs.Roles.{may_be_given};
 ghost use Rattle.op_types.specs.Spelling.{IsKind};
 ghost use Rattle.msg_form.specs.declared.decline.Decline.TheVariants as declines;
 ghost use Rattle.client_core.specs.Asking.{admit, look, post, remove};
-<<<<<<< HEAD
 ghost use Rattle.client_core.specs.Clients.{client_view, Appends, Asks, Declines, IsReady, IsSendable};
+ghost use Rattle.client_core.specs.Keeping.{HasKeys, IsMadeOn};
 ghost use Rattle.msg_form.specs.declared.message.Request.TheVariants as requests;
 ghost use Rattle.msg_form.specs.Messages.{IsRequest};
-=======
-ghost use Rattle.client_core.specs.Clients.{client_view, Appends, Asks, Declines, IsReady};
-ghost use Rattle.client_core.specs.Keeping.{HasKeys, IsMadeOn};
->>>>>>> b7504cfc3b27b2dfd788fa16231a4a0e5afe4280
 ghost use Rattle.client_core.specs.Sides.{sides_view, HasSide, IsSide, SideView, side_of, side_view};
 
 use super::Client;

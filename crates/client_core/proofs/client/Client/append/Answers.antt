@@ -1,4 +1,3 @@
-<<<<<<< HEAD
 use Rattle.std.proofs.Common.{◌≡◌, ◌∙◌, List, Option, Some, ap, sym, subst}
 use Rattle.std.specs.Prelude.{IfOk, OnErr, Result, slice_set}
 use Rattle.msg_form.specs.declared.decline.Decline.{Decline}
@@ -6,13 +5,6 @@ use Rattle.client_core.specs.declared.side.Side.{Side}
 use Rattle.op_types.specs.declared.op.Op.{Op}
 use Rattle.client_core.specs.Asking.{sent_of}
 use Rattle.client_core.specs.Clients.{Standing, client_view, Appends, IsSendable}
-=======
-use Rattle.std.proofs.Common.{◌≡◌, ◌∙◌, List, Some, ap, sym, subst}
-use Rattle.std.specs.Prelude.{IfOk, OnErr, Result, slice_set}
-use Rattle.msg_form.specs.declared.decline.Decline.{Decline}
-use Rattle.client_core.specs.declared.side.Side.{Side}
-use Rattle.client_core.specs.Clients.{Standing, client_view, Appends}
->>>>>>> b7504cfc3b27b2dfd788fa16231a4a0e5afe4280
 use Rattle.client_core.specs.Sides.{HasSide, SideView, place_of, side_of, side_view, sides_view}
 use Rattle.client_core.proofs.Places.{at-place}
 use Rattle.client_core.specs.declared.sent.Sent.{Sent}

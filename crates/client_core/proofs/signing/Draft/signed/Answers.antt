@@ -58,8 +58,16 @@ returns-clause-spelled c =
     } in
     let text : c.with_end-op.result ≡ op_text (with_sig op sig) =
     c.with_end-op.ensures ∙ (ap (λ (x : Text). take (length draft.text - length x) draft.text ++ x) c.as_slice.ensures
-    ∙ (ap (λ (r : Text). take (length r - length sig) r ++ sig) c.requires.draft.text ∙ op-ends op sig c.requires.length)) in
-    (signed, (is.wall, (c.requires.draft.have, (
-      op-short (with_sig op sig) signed,
-      subst IsBytes (c.as_slice-2.ensures ∙ text) c.slices_of_bytes.ensures,
-    ))))
+    ∙ (ap (λ (r : Text). take (length r - length sig) r ++ sig) c.requires.draft.text ∙ op-ends op sig c.requires.length)) in (
+      signed,
+      (
+        is.wall,
+        (
+          c.requires.draft.have,
+          (
+            op-short (with_sig op sig) signed,
+            subst IsBytes (c.as_slice-2.ensures ∙ text) c.slices_of_bytes.ensures,
+          ),
+        ),
+      ),
+    )
