@@ -23,7 +23,8 @@ use Rattle.key_graph.proofs.Nodes as nodes
 use Rattle.key_graph.proofs.Nodes.{Above}
 use Rattle.key_graph.proofs.Opening.{all-other, flipped}
 use Rattle.key_graph.proofs.Law.{Closed, IsChild, and_left, and_right, any_some, apart_slots, below_or_at, child_half, generation-kept, generation-new, has-key, held_some, high, holder-other, low}
-use Rattle.key_graph.proofs.Runs.{AreDistinct, AreFit, IsUnused, all_fit, begun, distinct, facts, none_held, start}
+use Rattle.key_graph.specs.Streams.{AreFit}
+use Rattle.key_graph.proofs.Runs.{AreDistinct, IsUnused, all_fit, begun, distinct, facts, none_held, start}
 
 -- ---- tests
 

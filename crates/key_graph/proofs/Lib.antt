@@ -4,3 +4,4 @@ pub mod Nodes
 pub mod Law
 pub mod Runs
 pub mod Books
+pub mod Streams

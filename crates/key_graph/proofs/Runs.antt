@@ -14,6 +14,7 @@ use Rattle.key_graph.specs.declared.change.PlanRefusal.TheVariants.{AlreadyIn, N
 use Rattle.key_graph.specs.Slots.{least_below}
 use Rattle.key_graph.specs.KeyTree.{Plan, Tree, after, fits, followed_by, free_slot, holder, is_held, place_of, planned, root_generation, slot_node, slot_of, with_wraps}
 use Rattle.key_graph.specs.Reach.{Among, Event, plan, follow, followed, plans, generations, tree_of, Rises, IsOpen, IsRun, HasSlotBelow, IsMember, KeyName, leaf, inner, Reach, own, opens, changes_at}
+use Rattle.key_graph.specs.Streams.{AreFit}
 use Rattle.key_graph.proofs.Histories.{both_true}
 use Rattle.key_graph.proofs.Nodes as nodes
 use Rattle.key_graph.proofs.Nodes.{Above}
@@ -198,10 +199,6 @@ unfolding followed_by
 follows setting c es run = rw (open_fits setting c es run.1 run.0) refl
 
 -- each followed change fits, and has a generation that is neither 0 nor an earlier one's
-abbrev pub AreFit : ℕ → List Change → Type 0
-AreFit t [] = Unit {0}
-AreFit t (c ∷ cs) = (fits t cs c.slot c.what ≡ true) × AreFit t cs
-
 pub all_fit : (setting : Setting) (es : List Event) → IsRun setting es → AreFit setting.depth (followed es)
 all_fit setting [] run = tt
 all_fit setting (plan c ∷ es) run = all_fit setting es run.2

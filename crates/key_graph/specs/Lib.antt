@@ -5,3 +5,4 @@ pub mod KeyBook
 pub mod NodeKeys
 pub mod Held
 pub mod Learning
+pub mod Streams

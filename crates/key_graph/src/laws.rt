@@ -6,9 +6,10 @@ ghost use Rattle.key_graph.specs.KeyTree.{Plan, after, ancestors, followed_by, r
 ghost use Rattle.key_graph.specs.Learning.{HasLeaf, book_after};
 ghost use Rattle.key_graph.specs.Reach.{Among, Event, HasSlotBelow, IsMember, IsRun, Reach, changes_at, follow, followed, inner, plans, tree_of};
 ghost use Rattle.key_graph.specs.declared.change.Change.{Change};
+ghost use Rattle.key_graph.specs.Streams.{AreFit, Use, WrapUses};
 ghost use Rattle.key_graph.specs.declared.change.Setting.{Setting};
 ghost use Rattle.std.specs.List.{list_any};
-ghost use Rattle.std.specs.Prelude.{◌≡◌, ◌≤◌, ◌↔◌, ◌∷◌, ℕ, List, Some, nat_eq, true};
+ghost use Rattle.std.specs.Prelude.{◌≡◌, ◌<◌, ◌≤◌, ◌^◌, ◌↔◌, ◌∷◌, ℕ, List, Some, nat_eq, true};
 
 /// Who reaches which key. In every key run the key of a node above a plan's slot, in the plan's generation, is among
 /// those that a user reaches exactly where the user has a slot below the node after that plan. All plans count, also
@@ -33,4 +34,15 @@ pub fn runs()
 /// tree's.
 pub fn books()
     ensures { (setting : Setting) (es : List Event) (role : Change → ℕ) (u : ℕ) (leaf : Text) (e : ℕ) (key : Text) → IsRun setting es → 1 ≤ setting.depth → HasLeaf u leaf (followed es) → (book_root (book_after setting role u leaf (followed es)) e ≡ Some key) ↔ IsMember setting.depth (changes_at e (followed es)) u × (tree_root (tree_of setting es) e ≡ Some key) }
+{}
+
+/// Which streams of which keys are used. No two wraps of a plan over changes that fitted use the same stream of one key,
+/// none uses a root's key, and plans that use the same stream have one generation.
+pub fn streams()
+    ensures once { (setting : Setting) (p : Plan) (i j : ℕ) (u : Use) → AreFit setting.depth (after p)
+        → p.change.slot < 2 ^ setting.depth → WrapUses setting p i u → WrapUses setting p j u → i ≡ j }
+    ensures root { (setting : Setting) (p : Plan) (i g : ℕ) (u : Use) → WrapUses setting p i u → u.key ≡ inner 1 g → ⊥ }
+    ensures generations { (setting : Setting) (p q : Plan) (i j : ℕ) (u : Use) → p.change.generation < 2 ^ 32
+        → q.change.generation < 2 ^ 32 → WrapUses setting p i u → WrapUses setting q j u
+        → p.change.generation ≡ q.change.generation }
 {}

@@ -1,0 +1,9 @@
+pub mod Keys
+pub mod Sides
+pub mod Asking
+pub mod Uses
+pub mod Signing
+pub mod Taking
+pub mod Clients
+pub mod Keeping
+pub mod Wishes

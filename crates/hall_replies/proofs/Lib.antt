@@ -1,0 +1,10 @@
+pub mod Changes
+pub mod Joined
+pub mod Kept
+pub mod ListTexts
+pub mod NewsTrees
+pub mod Proofs
+pub mod Replies
+pub mod Shows
+pub mod Trees
+pub mod Vouches

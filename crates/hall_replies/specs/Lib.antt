@@ -1,0 +1,4 @@
+pub mod Kept
+pub mod KeyOps
+pub mod Shown
+pub mod Knowing

@@ -1,0 +1,11 @@
+pub mod Playing
+pub mod Turning
+pub mod Places
+pub mod Reseating
+pub mod Dealing
+pub mod Moves
+pub mod Rounds
+pub mod Endings
+pub mod Requests
+pub mod KeyReplies
+pub mod Snapshots
