@@ -1,8 +1,8 @@
 -- Seats and snapshots by their places, and what is known by walls' numbers.
-use Rattle.std.proofs.Common.{◌≡◌, ◌≢◌, ◌∙◌, ℕ, zero, suc, ◌<◌, List, [], ◌∷◌, length, get_or, set, cond, refl, sym, ap, arith}
+use Rattle.std.proofs.Common.{◌≡◌, ◌≢◌, ◌∙◌, ℕ, zero, suc, ◌<◌, List, [], ◌∷◌, length, get_or, set, cond, refl, sym, ap, arith, slice_index_or, inl, inr}
 use Rattle.std.specs.Prelude.{nat_eq}
-use Rattle.std.specs.List.{AllZip}
-use Rattle.std.proofs.lemmas.Bool.{eq-eqb, ne_eqb}
+use Rattle.std.specs.List.{AllZip, Contains}
+use Rattle.std.proofs.lemmas.Bool.{cases_eq, eq-eqb, ne_eqb}
 use Rattle.hall_core.specs.declared.snapshot.Snapshot.{Snapshot}
 use Rattle.hall_server.specs.Seating.{IsFirst}
 use Rattle.hall_server.specs.Sights.{HallSeat, Sight, sight_in, sight_of, sights_in, walls_in}
@@ -102,3 +102,18 @@ walls_set (x ∷ sights) wall zero s first same =
     ap (λ w. w ∷ walls_in sights) (same ∙ sym (first_here (walls_in sights) wall x.facts.wall first))
 walls_set (x ∷ sights) wall (suc k) s first same =
     ap (λ ws. x.facts.wall ∷ ws) (walls_set sights wall k s (first_rest (walls_in sights) wall x.facts.wall k first) same)
+
+listed_later : (walls : List ℕ) (w wall k : ℕ) → k < length (w ∷ walls) → slice_index_or (w ∷ walls) k wall ≡ wall
+    → w ≢ wall → Contains walls wall
+listed_later walls w wall zero within at apart = absurd (apart at)
+listed_later walls w wall (suc k) within at apart = (k, omega arith, at)
+
+-- what is known of a wall that is listed is of that wall
+pub sight_listed : (sights : List Sight) (wall : ℕ) → Contains (walls_in sights) wall
+    → (sight_in sights wall).facts.wall ≡ wall
+sight_listed [] wall listed = absurd (let within = listed.1 in omega arith)
+sight_listed (s ∷ sights) wall listed = elim (cases_eq s.facts.wall wall) [
+  | inl same ↦ rw (eq-eqb s.facts.wall wall same) same
+  | inr apart ↦ rw (ne_eqb s.facts.wall wall apart) (sight_listed sights wall
+      (listed_later (walls_in sights) s.facts.wall wall listed.0 listed.1 listed.2 apart))
+]
