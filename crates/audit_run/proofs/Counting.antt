@@ -1,5 +1,5 @@
 -- The counts of an audit, and what its search for unsigned operations tells.
-use Rattle.std.proofs.Common.{◌≡◌, ◌∙◌, inl, inr, ℕ, zero, suc, Bool, List, [], ◌∷◌, length, Option, Some, None, refl, sym, ap, subst, arith}
+use Rattle.std.proofs.Common.{◌≡◌, ◌∙◌, inl, inr, ℕ, zero, suc, Bool, List, [], ◌∷◌, ◌++◌, length, Option, Some, None, refl, sym, ap, subst, arith}
 use Rattle.std.specs.Prelude.{filter, is_some, slice_get}
 use Rattle.std.specs.List.{AllByRecursion}
 use Rattle.std.proofs.lemmas.Bool.{cases_Bool, cond-true, cond-false}
@@ -9,8 +9,12 @@ use Rattle.op_types.specs.declared.op.Leaf.{Leaf}
 use Rattle.op_types.specs.declared.op.Op.{Op}
 use Rattle.world_book.specs.declared.took.Took.{Took}
 use Rattle.world_book.specs.declared.world.World.{World}
+use Rattle.signed_ops.specs.Signed.{IsAuthorSigned}
+use Rattle.signed_ops.proofs.Signatures.{is_signed}
 use Rattle.world_book.specs.Kept.{Kept}
-use Rattle.world_book.specs.Records.{records_of}
+use Rattle.world_book.proofs.Leaves.{leaf-passes}
+use Rattle.world_book.proofs.Places.{flat-place}
+use Rattle.world_book.specs.Records.{keys_of, records_of}
 use Rattle.world_audit.specs.Comparisons.{all_compared}
 use Rattle.world_audit.specs.Sound.{NothingUnsigned}
 use Rattle.world_audit.specs.Story.{story}
@@ -91,12 +95,27 @@ first-is : (w : World) (leaf : Leaf) → IsSearched w (shown_leaves w) (Some lea
 unfolding IsSearched
 first-is w leaf found = found
 
-pub finds-forged : (w : World) (leaf : Leaf) (user wall : ℕ) (op : Op) → IsSearched w (shown_leaves w) (Some leaf)
+behind-front : (xs : List Leaf) (l : Leaf) (ys : List Leaf) → slice_get (xs ++ l ∷ ys) (length xs) ≡ Some l
+behind-front [] l ys = refl
+behind-front (x ∷ xs) l ys = behind-front xs l ys
+
+-- A shown operation is validly signed.
+shown-signed : (d : Digest) (w : World) → Kept d w → (leaf : Leaf) → IsFirstUnsigned w (shown_leaves w) leaf
+    → IsAuthorSigned (keys_of w.users) leaf.op
+shown-signed d w kept leaf first =
+    let at : slice_get (shown_leaves w) (length first.before) ≡ Some leaf =
+    ap (λ (ls : List Leaf). slice_get ls (length first.before)) first.shown ∙ behind-front first.before leaf first.behind in
+    let it = flat-place (λ (r : Took). r.leaves) (records_of w) (length first.before) leaf at in
+    is_signed (keys_of w.users) leaf.op (leaf-passes d w kept it.0 it.1 it.2.place leaf it.2.there).2.signed
+
+pub finds-forged : (d : Digest) (w : World) → Kept d w → (leaf : Leaf) (user wall : ℕ) (op : Op)
+    → IsSearched w (shown_leaves w) (Some leaf)
     → (user ≡ leaf.op.author) × (wall ≡ leaf.op.wall) × (op ≡ leaf.op) → FindsForged w user wall op
-finds-forged w leaf user wall op found is = record {
+finds-forged d w kept leaf user wall op found is = record {
   leaf = leaf;
   first = first-is w leaf found;
   user_is = is.0;
   wall_is = is.1;
   op_is = is.2;
+  signed = subst (IsAuthorSigned (keys_of w.users)) (sym is.2) (shown-signed d w kept leaf (first-is w leaf found));
 }

@@ -4,7 +4,9 @@ use Rattle.fr_digest.specs.Collision.{Collides, Strings}
 use Rattle.fr_digest.specs.Digest.{Digest}
 use Rattle.op_types.specs.declared.op.Leaf.{Leaf}
 use Rattle.op_types.specs.declared.op.Op.{Op}
+use Rattle.signed_ops.specs.Signed.{IsAuthorSigned}
 use Rattle.world_book.specs.declared.world.World.{World}
+use Rattle.world_book.specs.Records.{keys_of}
 use Rattle.world_audit.specs.Comparisons.{all_compared, first_difference}
 use Rattle.world_audit.specs.Sound.{NothingUnsigned}
 use Rattle.world_audit.specs.Sound as histories
@@ -26,10 +28,12 @@ pub record FindsClash (d : Digest) (w : World) (strings : Strings) : Type 0 wher
   pub first : first_difference d (all_compared w) ≡ Some strings
   pub collides : Collides d strings
 
--- It is the first operation that is shown in the name of an honest user who never signed it.
+-- It is the first operation that is shown in the name of an honest user who never signed it; and its signature is valid
+-- under the key of that user.
 pub record FindsForged (w : World) (user wall : ℕ) (op : Op) : Type 0 where
   pub leaf : Leaf
   pub first : IsFirstUnsigned w (shown_leaves w) leaf
   pub user_is : user ≡ leaf.op.author
   pub wall_is : wall ≡ leaf.op.wall
   pub op_is : op ≡ leaf.op
+  pub signed : IsAuthorSigned (keys_of w.users) op

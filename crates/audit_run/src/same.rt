@@ -9,13 +9,13 @@ fn is_same_text(a: &[u8], b: &[u8]) -> bool
     a == b
 }
 
-fn is_same_view(a: &View, b: &View) -> bool
-    ensures { IsTrue result ↔ (a.now ≡ b.now) }
+fn is_same_view(view: &View, other: &View) -> bool
+    ensures { IsTrue result ↔ (view.now ≡ other.now) }
 {
-    a.wall == b.wall
-        && a.size == b.size
-        && a.root == b.root
-        && is_same_text(a.sig.as_slice(), b.sig.as_slice())
+    view.wall == other.wall
+        && view.size == other.size
+        && view.root == other.root
+        && is_same_text(view.sig.as_slice(), other.sig.as_slice())
 }
 
 fn is_same_wrap(a: &Wrap, b: &Wrap) -> bool

@@ -9,7 +9,7 @@ use Rattle.audit_run.proofs.judging.audit.Goals as goal
 
 pub returns-in-Some-clause-forged : goal.returns-in-Some-clause-forged
 returns-in-Some-clause-forged g c user wall op e =
-    finds-forged c.args.world.now c.in-Some.leaf.now user wall op
+    finds-forged g.D.Digester.digest_of c.args.world.now c.requires c.in-Some.leaf.now user wall op
     (subst (IsSearched c.args.world.now (shown_leaves c.args.world.now)) (ap (option_map (λ l. l.now)) c.in-Some.is) c.first_unsigned.ensures)
     (c.forged.ensures.forged user wall op cc)
 
