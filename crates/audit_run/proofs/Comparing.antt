@@ -158,9 +158,6 @@ module _ {A : Type 0} (view : A → PrunedList) (d : Digest) (owner : ℕ) (L : 
   abbrev pub RestFrom : ℕ → ℕ → ℕ → List A → Type 0
   RestFrom from k i xs = Remains d (dicts_compared owner L k (map view (drop i xs))) (dicts_compared owner L from (map view xs))
 
-  pub dicts-begin : (from : ℕ) (xs : List A) → AreReady d (dicts_compared owner L from (map view xs)) → RestFrom from from 0 xs
-  dicts-begin from xs ready = all-remain d (dicts_compared owner L from (map view xs)) ready
-
   here-is : (from k i : ℕ) (xs : List A) (x : A) → i < length xs → x ≡ get_or xs i x → RestFrom from k i xs
       → Remains d (dict (view x) (state_of owner (take k L)).entries ∷ dicts_compared owner L (k + 1) (map view (drop (i + 1) xs)))
       (dicts_compared owner L from (map view xs))

@@ -182,11 +182,6 @@ filter-next p f xs k x at =
     flat-push f [] x = ap (λ ys. ys) (sym (append-nil (f x)))
     flat-push f (y ∷ ys) x = append_assoc (f y) (flat_map f ys) (f x) ∙ ap (λ zs. f y ++ zs) (flat-push f ys x)
 
-no-hole : {A : Type 0} (xs : List A) (n : ℕ) → n < length xs → slice_get xs n ≡ None → ⊥
-no-hole [] n less e = omega (arith, less)
-no-hole (x ∷ xs) zero less e = cc
-no-hole (x ∷ xs) (suc n) less e = no-hole xs n (omega (arith, less)) e
-
 -- the place says whether there is a history
 pub story-there : (lines : List History) (wall : ℕ) (o : Option (List Leaf)) (place : Option ℕ) → Holds lines wall o place
     → is_some o ≡ is_some place

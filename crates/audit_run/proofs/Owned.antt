@@ -114,9 +114,6 @@ unfolding NoneBefore
 none-at-all signed op n long before s at same =
     let within = slice_get_within signed at.place s at.there in before at.place s (omega arith) at.there same
 
-pub no-book : (w : World) (user : ℕ) → book_of w user ≡ None → is_honest w user ≡ false
-no-book w user none = ap is_no_rogue none
-
 pub a-book : (w : World) (user : ℕ) (book : UserBook) → book_of w user ≡ Some book → is_honest w user ≡ not book.rogue
 a-book w user book found = ap is_no_rogue found
 

@@ -251,14 +251,6 @@ table-set w lines new rows i r line table grows owners there it = record {
   owners = owners;
 }
 
-pub table-grown : (w : World) (lines new : List History) (rows : List Row) → IsTable w lines rows → Grows lines new
-    → AreOf w new → IsTable w new rows
-table-grown w lines new rows table grows owners = record {
-  count = table.count;
-  each = λ k r row here at. grown-row w lines new r row grows (table.each k r row here at);
-  owners = owners;
-}
-
 -- ---- one step of the way to a record
 
 -- the record at the place, and those that it rests on

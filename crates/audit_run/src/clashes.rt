@@ -53,7 +53,8 @@ pub(crate) fn front_clash<D: Digester>(
     requires same { is_same ≡ true → a.now ≡ b.now }
     requires left { v ≤ length a.now.leaves }
     requires right { v ≤ length b.now.leaves }
-    requires ready { AreReady D.digest_of (lists (texts_of (take v a.now.leaves)) (texts_of (take v b.now.leaves)) ∷ []) }
+    requires ready { AreReady D.digest_of
+        (lists (texts_of (take v a.now.leaves)) (texts_of (take v b.now.leaves)) ∷ []) }
     ensures { IfOk result (λ c. Compared D.digest_of
         (lists (texts_of (take v a.now.leaves)) (texts_of (take v b.now.leaves)) ∷ []) c) }
 {

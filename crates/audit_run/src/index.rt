@@ -1,4 +1,5 @@
-ghost use Rattle.std.specs.Prelude.{◌≡◌, ◌++◌, ◌<◌, length, map, option_and_then, slice_get, IfOk, IfSome, OnOk, None, if◌then◌else◌, nat_eq};
+ghost use Rattle.std.specs.Prelude.{◌≡◌, ◌++◌, ◌<◌, length, map, option_and_then, slice_get, IfOk, IfSome, OnOk};
+ghost use Rattle.std.specs.Prelude.{None, if◌then◌else◌, nat_eq};
 ghost use Rattle.std.specs.Option.{option_map};
 ghost use Rattle.world_book.specs.Records.{note_of, record_of, records_of};
 ghost use Rattle.world_audit.specs.Comparisons.{base, owner_of, seen_by};

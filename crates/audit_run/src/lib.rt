@@ -1,5 +1,5 @@
-//! The audit of a run. From what is kept of it: an operation in the name of an honest user who never signed it; else two
-//! strings of one digest, from the first comparison that differs; else that every history with a ground is sound.
+//! The audit of a run. From what is kept of it: an operation in the name of an honest user who never signed it; else
+//! two strings of one digest, from the first comparison that differs; else that every history with a ground is sound.
 #![tactic(auto)]
 
 mod answer;

@@ -1,4 +1,5 @@
-ghost use Rattle.std.specs.Prelude.{◌≡◌, ◌+◌, ◌-◌, ◌<◌, ◌≤◌, ◌^◌, ◌++◌, ◌∷◌, [], Some, length, map, slice_get, take, true, IfOk, OnOk, OnErr};
+ghost use Rattle.std.specs.Prelude.{◌≡◌, ◌+◌, ◌-◌, ◌<◌, ◌≤◌, ◌^◌, ◌++◌, ◌∷◌, [], Some, length, map, slice_get, take};
+ghost use Rattle.std.specs.Prelude.{true, IfOk, OnOk, OnErr};
 ghost use Rattle.hist_proof.specs.Pruned.{Prunes};
 ghost use Rattle.hist_proof.specs.View.{tree_view};
 ghost use Rattle.op_types.specs.Spelling.{IsLeaf, leaf_text};

@@ -1,4 +1,5 @@
-ghost use Rattle.std.specs.Prelude.{◌≡◌, ◌<◌, ◌++◌, ◌∷◌, [], ℕ, List, Option, Some, filter, fold, is_some, length, map, option_and_then, reverse, slice_get, IfOk, IfSome, OnOk};
+ghost use Rattle.std.specs.Prelude.{◌≡◌, ◌<◌, ◌++◌, ◌∷◌, [], ℕ, List, Option, Some, filter, fold, is_some, length};
+ghost use Rattle.std.specs.Prelude.{map, option_and_then, reverse, slice_get, IfOk, IfSome, OnOk};
 ghost use Rattle.std.specs.List.{flat_map};
 ghost use Rattle.op_types.specs.declared.op.Leaf.{Leaf};
 ghost use Rattle.world_book.specs.declared.took.Took.{Took};
@@ -80,7 +81,8 @@ fn push_seen(
     requires index { IsIndex index.now.world.now (map (λ r. r.now) index.now.records.items) }
     requires places { (lines : List History) × ArePlaces index.now.world.now lines places.now }
     ensures { OnOk result ((rs : List Took) → ArePicked (map (λ r. r.now) index.now.records.items) out.old.items rs
-        → ArePicked (map (λ r. r.now) index.now.records.items) out.new.items (rs ++ filter (has_story index.now.world.now)
+        → ArePicked (map (λ r. r.now) index.now.records.items) out.new.items
+        (rs ++ filter (has_story index.now.world.now)
         (flat_map (λ (l : Leaf). some_in (seen_by index.now.world.now wall l)) leaves.now))) }
 {
     for leaf in leaves {

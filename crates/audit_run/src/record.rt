@@ -1,9 +1,11 @@
-ghost use Rattle.std.specs.Prelude.{◌≡◌, ◌+◌, ◌^◌, ◌<◌, ◌≤◌, List, None, Option, Some, length, map, option_and_then, slice_get, ℕ, IfOk, IfSome};
+ghost use Rattle.std.specs.Prelude.{◌≡◌, ◌+◌, ◌^◌, ◌<◌, ◌≤◌, List, None, Option, Some, length, map, option_and_then};
+ghost use Rattle.std.specs.Prelude.{slice_get, ℕ, IfOk, IfSome};
 ghost use Rattle.std.specs.List.{flat_map};
 ghost use Rattle.op_types.specs.declared.op.Leaf.{Leaf};
 ghost use Rattle.world_book.specs.declared.took.Took.{Took};
 ghost use Rattle.world_book.specs.Records.{IsIn, records_of};
-ghost use Rattle.world_audit.specs.Comparisons.{all_compared, base_compared, front_with, order, record_compared, some_in, view_compared};
+ghost use Rattle.world_audit.specs.Comparisons.{all_compared, base_compared, front_with, order, record_compared};
+ghost use Rattle.world_audit.specs.Comparisons.{some_in, view_compared};
 ghost use Rattle.world_audit.specs.Ready.{AreReady};
 ghost use Rattle.world_audit.specs.Story.{prev, story};
 ghost use Rattle.audit_run.specs.Compared.{Compared};

@@ -1,4 +1,5 @@
-ghost use Rattle.std.specs.Prelude.{◌≡◌, ◌+◌, ◌-◌, ◌<◌, ◌≤◌, ◌^◌, ◌++◌, ◌∷◌, [], ℕ, List, Option, None, Some, length, map, option_and_then, slice_get, take, true, false, IfOk, IfSome, OnOk, OnErr};
+ghost use Rattle.std.specs.Prelude.{◌≡◌, ◌+◌, ◌-◌, ◌<◌, ◌≤◌, ◌^◌, ◌++◌, ◌∷◌, [], ℕ, List, Option, None, Some, length};
+ghost use Rattle.std.specs.Prelude.{map, option_and_then, slice_get, take, true, false, IfOk, IfSome, OnOk, OnErr};
 ghost use Rattle.std.specs.List.{AllByRecursion};
 ghost use Rattle.op_types.specs.declared.op.Leaf.{Leaf};
 ghost use Rattle.op_types.specs.Spelling.{IsLeaf};
@@ -6,7 +7,8 @@ ghost use Rattle.world_book.specs.declared.took.Took.{Took};
 ghost use Rattle.world_book.specs.declared.world.World.{World};
 ghost use Rattle.world_book.specs.Records.{IsIn, records_of};
 ghost use Rattle.world_audit.specs.Story.{base_of, front_of, prev, stands, story, vouched};
-ghost use Rattle.audit_run.specs.Table.{AreOf, ArePlaces, AreUnknown, Begins, Grows, HasFront, Holds, HoldsAt, IsIndex, IsTable};
+ghost use Rattle.audit_run.specs.Table.{AreOf, ArePlaces, AreUnknown, Begins, Grows, HasFront, Holds, HoldsAt};
+ghost use Rattle.audit_run.specs.Table.{IsIndex, IsTable};
 
 use crate::index::{Index, owner_of};
 use crate::line::Line;
