@@ -1,0 +1,12 @@
+pub mod Comparing
+pub mod Counting
+pub mod Lines
+pub mod Ordering
+pub mod Others
+pub mod Owned
+pub mod Places
+pub mod Prunings
+pub mod Reaching
+pub mod Records
+pub mod Searching
+pub mod Tables
