@@ -1,5 +1,5 @@
-ghost use Rattle.std.specs.Prelude.{◌≡◌, ◌≢◌, ◌≤◌, true, Some, IfOk, IfErr, OnErr, length};
-ghost use Rattle.op_types.specs.declared.limits.TheConstants.{BODY_BYTES_MAX};
+ghost use Rattle.std.specs.Prelude.{◌≡◌, ◌≢◌, ◌≤◌, true, Some, IfOk, IfErr, OnErr, length, ◌<◌, ◌^◌};
+ghost use Rattle.op_types.specs.declared.limits.TheConstants.{BODY_BYTES_MAX, SEQ_MAX};
 ghost use Rattle.op_types.specs.Roles.{may_be_given};
 ghost use Rattle.op_types.specs.Spelling.{IsKind};
 ghost use Rattle.msg_form.specs.declared.decline.Decline.TheVariants as declines;
@@ -15,9 +15,19 @@ use crate::signing::append;
 use crate::wish::Wish;
 use fr_bytes::NoMemory;
 use fr_digest::Digester;
+use lms_tree::Signer;
 use msg_form::Decline;
 use op_types::Kind;
+use op_types::limits::SEQ_MAX;
 use std::alloc::Global;
+
+// Whether a number and a leaf are left for one more operation.
+fn has_room(side: &Side, signer: &Signer) -> bool
+    ensures room { result ≡ true → (side.now.next ≤ SEQ_MAX) × (signer.now.used < 2 ^ signer.now.pair.lms.h) }
+    ensures none { side.now.next ≤ SEQ_MAX → signer.now.used < 2 ^ signer.now.pair.lms.h → result ≡ true }
+{
+    side.next <= SEQ_MAX && signer.left() > 0
+}
 
 impl<D: Digester> Client<D> {
     // The side of a wall that the client has one for.
@@ -45,6 +55,20 @@ impl<D: Digester> Client<D> {
         match append(alloc, &mut self.signer, side, &mut self.book, kind) {
             Ok(sent) => Ok(sent),
             Err(NoMemory) => Err(Decline::NoMemory),
+        }
+    }
+
+    /// Whether the client has a side for the wall, with a number for one more operation and a leaf to sign it with. Takes
+    /// no memory.
+    pub fn is_ready(&self, wall: u32) -> bool
+        ensures ready { result ≡ true → IsReady (client_view self.now) wall }
+        ensures none { IsReady (client_view self.now) wall → result ≡ true }
+        ensures side { result ≡ true → HasSide wall (sides_view self.now.sides) }
+    {
+        let place = place_of(&self.sides, wall);
+        match self.sides.get(place) {
+            Some(side) => has_room(side, &self.signer),
+            None => false,
         }
     }
 
