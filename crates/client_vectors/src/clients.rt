@@ -12,7 +12,7 @@ use lms_params::pair_of;
 use lms_tree::{PublicKey, Signer};
 use serde_json::Value;
 use std::alloc::Global;
-use vector_cases::{CaseFault, Cases, bytes_at, dig_at, list_at, small_at};
+use vector_cases::{CaseFault, Cases, bytes_at, dig_at, list_at, number_at, small_at};
 
 /// The clients of a document with these users.
 #[derive(Drop)]
@@ -77,6 +77,11 @@ impl Clients {
     }
 }
 
+// Whether a book has as many records and operations as the case says.
+fn has_counts(case: &Value, took: u64, signed: u64) -> Result<bool, CaseFault> {
+    Ok(number_at(case, "took")? == took && number_at(case, "signed")? == signed)
+}
+
 impl Cases for Clients {
     fn is_same(&mut self, alloc: Global, case: &Value) -> Result<bool, CaseFault> {
         let wall = small_at(case, "wall")?;
@@ -87,6 +92,8 @@ impl Cases for Clients {
             let is_so = is_step(alloc, &mut client, wall, step)?;
             same = same && is_so;
         }
-        Ok(same)
+        let signed = client.book().signed.len() as u64;
+        let took = client.end().took.len() as u64;
+        Ok(same && has_counts(case, took, signed)?)
     }
 }

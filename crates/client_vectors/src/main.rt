@@ -8,7 +8,10 @@
 //! - its `steps`, one after the other. A step is a look (`do` is `look`, with `whole`), a `post` with its `text`, an `admit`
 //!   with a `user` and its `role`, or a `remove` with a `user`. Where the client declines it, `declined` is the name of the
 //!   decline. Else `request` is the request, and `replies` is a list of what it is then handed, each with the `reply` and
-//!   the `answer`: `Same N`, `Taken N from M`, `Refused CAUSE NUMBER` or the name of a verdict.
+//!   the `answer`: `Same N`, `Taken N from M`, `Refused CAUSE NUMBER` or the name of a verdict. A step is also `keys`, with
+//!   whether the client `needs` keys, its `request` for them, the `reply` and the `answer`, `Changes` or the name of a
+//!   verdict; or `read`, with an `op` and the `text` that the client reads of it, or null;
+//! - how many replies it `took` and operations it `signed`, by its book.
 //!
 //! It writes the index of each case that differs, from 0, a line each, and then `clients N cases, D differ`. Its status
 //! is 0 where none differs, 1 where one does, and 2 where the document or a case is malformed.
@@ -20,6 +23,7 @@ use vector_cases::{DocumentFault, compare, read_document, status};
 use wall::Users;
 
 mod clients;
+mod keys;
 mod steps;
 mod wall;
 

@@ -1,5 +1,6 @@
 //! Steps of a client.
 
+use crate::keys::{is_keys, is_read};
 use client_core::{Client, News, Sent};
 use fr_digest::Sha;
 use msg_form::{Decline, Verdict};
@@ -127,8 +128,8 @@ fn is_sent(
     Ok(same)
 }
 
-/// Whether the client does as a step says.
-pub fn is_step(
+// Whether the client asks as a step says, and hears the replies so.
+fn is_asked(
     alloc: Global,
     client: &mut Client<Sha>,
     wall: u32,
@@ -140,5 +141,19 @@ pub fn is_step(
             Some(name) => Ok(name.as_str() == Some(decline.name())),
             None => Ok(false),
         },
+    }
+}
+
+/// Whether the client does as a step says.
+pub fn is_step(
+    alloc: Global,
+    client: &mut Client<Sha>,
+    wall: u32,
+    step: &Value,
+) -> Result<bool, CaseFault> {
+    match word_at(step, "do")? {
+        "keys" => is_keys(alloc, client, wall, step),
+        "read" => is_read(alloc, client, step),
+        _ => is_asked(alloc, client, wall, step),
     }
 }
