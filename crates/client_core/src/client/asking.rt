@@ -45,7 +45,8 @@ impl<D: Digester> Client<D> {
     fn append(&mut self, alloc: Global, wall: u32, kind: Kind) -> Result<Sent, Decline>
         requires ready { IsReady (client_view self.old) wall }
         requires kind { IsKind kind }
-        requires made { (s : SideView) → side_of wall (sides_view self.old.sides) ≡ Some s → IsMadeOn self.old.book.user s kind }
+        requires made { (s : SideView) → side_of wall (sides_view self.old.sides) ≡ Some s
+            → IsMadeOn self.old.book.user s kind }
         ensures appends { IfOk result (λ sent. Appends (client_view self.old) wall kind sent (client_view self.new)) }
         ensures declines { IfErr result (λ d. d ≡ declines.NoMemory) }
         ensures unchanged { OnErr result (client_view self.new ≡ client_view self.old) }
@@ -93,8 +94,10 @@ impl<D: Digester> Client<D> {
     pub fn post_request(&mut self, alloc: Global, wall: u32, text: &[u8]) -> Result<Sent, Decline>
         requires ready { IsReady (client_view self.old) wall }
         requires text { length text.now ≤ BODY_BYTES_MAX }
-        ensures asks { IfOk result (λ sent. Asks (client_view self.old) wall (post text.now) sent (client_view self.new)) }
-        ensures declines { IfErr result (λ d. d ≢ declines.NoMemory → Declines (client_view self.old) wall (post text.now) d) }
+        ensures asks { IfOk result (λ sent. Asks (client_view self.old) wall (post text.now) sent
+            (client_view self.new)) }
+        ensures declines { IfErr result (λ d. d ≢ declines.NoMemory
+            → Declines (client_view self.old) wall (post text.now) d) }
         ensures unchanged { OnErr result (client_view self.new ≡ client_view self.old) }
     {
         let kind = self.side(wall).post(alloc, self.book.user, text)?;
@@ -117,8 +120,10 @@ impl<D: Digester> Client<D> {
     ) -> Result<Sent, Decline>
         requires ready { IsReady (client_view self.old) wall }
         requires role { may_be_given role ≡ true }
-        ensures asks { IfOk result (λ sent. Asks (client_view self.old) wall (admit user role) sent (client_view self.new)) }
-        ensures declines { IfErr result (λ d. d ≢ declines.NoMemory → Declines (client_view self.old) wall (admit user role) d) }
+        ensures asks { IfOk result (λ sent. Asks (client_view self.old) wall (admit user role) sent
+            (client_view self.new)) }
+        ensures declines { IfErr result (λ d. d ≢ declines.NoMemory
+            → Declines (client_view self.old) wall (admit user role) d) }
         ensures unchanged { OnErr result (client_view self.new ≡ client_view self.old) }
     {
         let kind = self.side(wall).change(Wish::Adds { user, role })?;
@@ -132,8 +137,10 @@ impl<D: Digester> Client<D> {
     /// each the client is as before.
     pub fn remove_request(&mut self, alloc: Global, wall: u32, user: u32) -> Result<Sent, Decline>
         requires { IsReady (client_view self.old) wall }
-        ensures asks { IfOk result (λ sent. Asks (client_view self.old) wall (remove user) sent (client_view self.new)) }
-        ensures declines { IfErr result (λ d. d ≢ declines.NoMemory → Declines (client_view self.old) wall (remove user) d) }
+        ensures asks { IfOk result (λ sent. Asks (client_view self.old) wall (remove user) sent
+            (client_view self.new)) }
+        ensures declines { IfErr result (λ d. d ≢ declines.NoMemory
+            → Declines (client_view self.old) wall (remove user) d) }
         ensures unchanged { OnErr result (client_view self.new ≡ client_view self.old) }
     {
         let kind = self.side(wall).change(Wish::Drops { user })?;

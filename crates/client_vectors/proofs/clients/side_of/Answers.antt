@@ -8,7 +8,8 @@ pub returns-in_ok-push : goal.returns-in_ok-push
 unfolding IsDistinct
 returns-in_ok-push c =
     let start = c.args.start in
-    let items = c.in_ok-push.ensures.items ∙ ap (λ (xs : List SideStart). xs ++ start ∷ []) c.new-sides.ensures.items in
+    let items = c.in_ok-push.ensures.items ∙ ap (λ (xs : List SideStart). xs ++ start ∷ [])
+    c.new-sides.ensures.items in
     subst (AreStarts c.args.user c.args.key) (sym items)
     (record {
       each = (c.is_start.ensures c.if-is_start.true, tt);

@@ -1,5 +1,4 @@
-use Rattle.std.proofs.Common.{◌≡◌, ◌∙◌, ◌<◌, true, List, Some, get_or, length, ap, sym, subst, arith}
-use Rattle.std.specs.Prelude.{nat_lt}
+use Rattle.std.proofs.Common.{◌≡◌, ◌∙◌, ◌<◌, List, get_or, length, ap, sym, subst, arith}
 use Rattle.std.proofs.lemmas.Bool.{ltb-true}
 use Rattle.client_core.specs.declared.side.Side.{Side}
 use Rattle.client_core.specs.Clients.{IsReady, Standing, client_view}
@@ -14,9 +13,11 @@ returns-in-Some-clause-ready g c room_is =
     let place = c.place_of-place.result in
     let s = c.in-Some.side.now in
     let same = c.deref-2.ensures.value in
-    let e = c.place_of-place.ensures ∙ ap (λ (xs : List Side). place_of c.args.wall (sides_view xs)) c.deref.ensures.value in
+    let e = c.place_of-place.ensures ∙ ap (λ (xs : List Side). place_of c.args.wall
+    (sides_view xs)) c.deref.ensures.value in
     let less : place < length items =
-    subst (λ (xs : List Side). place < length xs) same (ltb-true place (length c.deref-2.result.now) (sym c.in-Some.ensures.lookup.0)) in
+    subst (λ (xs : List Side). place < length xs) same (ltb-true place (length c.deref-2.result.now)
+    (sym c.in-Some.ensures.lookup.0)) in
     let n = length-view items in
     let h : HasSide c.args.wall (sides_view items) = omega arith in
     let is = subst (λ (xs : List Side). s ≡ get_or xs place s) same c.in-Some.ensures.lookup.1 in

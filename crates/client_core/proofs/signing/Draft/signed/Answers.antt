@@ -32,9 +32,12 @@ returns c =
     let op = draft.op in
     let sig = c.args.sig in
     let request : c.with_end.result ≡ request_text (requests.Append op.wall draft.have (op_text (with_sig op sig))) =
-    c.with_end.ensures ∙ (ap (λ (x : Text). take (length draft.request - length x) draft.request ++ x) c.as_slice.ensures
-    ∙ (ap (λ (r : Text). take (length r - length sig) r ++ sig) c.requires.draft.request ∙ request-ends op.wall draft.have op sig c.requires.length)) in
+    c.with_end.ensures ∙ (ap (λ (x : Text). take (length draft.request - length x) draft.request ++ x)
+    c.as_slice.ensures
+    ∙ (ap (λ (r : Text). take (length r - length sig) r ++ sig) c.requires.draft.request
+    ∙ request-ends op.wall draft.have op sig c.requires.length)) in
     let text : c.with_end-2.result ≡ op_text (with_sig op sig) =
     c.with_end-2.ensures ∙ (ap (λ (x : Text). take (length draft.text - length x) draft.text ++ x) c.as_slice-2.ensures
-    ∙ (ap (λ (r : Text). take (length r - length sig) r ++ sig) c.requires.draft.text ∙ op-ends op sig c.requires.length)) in
+    ∙ (ap (λ (r : Text). take (length r - length sig) r ++ sig) c.requires.draft.text
+    ∙ op-ends op sig c.requires.length)) in
     rw (request, text) refl
