@@ -1,5 +1,5 @@
 -- What a call on a wall leaves as it was, and the side that it leaves.
-use Rattle.std.proofs.Common.{◌≡◌, ◌∙◌, inl, inr, ℕ, ◌+◌, [], ◌∷◌, ◌++◌, Option, Some, None, refl, ap, sym, subst}
+use Rattle.std.proofs.Common.{◌≡◌, ◌∙◌, inl, inr, ℕ, ◌+◌, [], ◌∷◌, ◌++◌, Option, Some, None, refl, ap, sym, subst, List}
 use Rattle.std.specs.Prelude.{if◌then◌else◌, Ok, Err}
 use Rattle.std.proofs.lemmas.Bool.{cases_Bool, cond-true, cond-false}
 use Rattle.fr_bytes.specs.Bytes.{Text}
@@ -9,6 +9,7 @@ use Rattle.lms_tree.specs.Signer.{Signing}
 use Rattle.check_core.specs.declared.checked.Checked.{Checked}
 use Rattle.check_core.specs.declared.checked.Checked.TheVariants as answers
 use Rattle.check_core.specs.View.{checked_view}
+use Rattle.check_rules.specs.Verdict.{keys_judged}
 use Rattle.msg_form.specs.declared.verdict.Verdict.{Verdict}
 use Rattle.signed_ops.specs.Signed.{once_more}
 use Rattle.world_book.specs.declared.book.UserBook.{UserBook}
@@ -16,7 +17,7 @@ use Rattle.world_book.specs.declared.world.WallNote.{WallNote}
 use Rattle.client_core.specs.declared.news.News.{News}
 use Rattle.client_core.specs.declared.sent.Sent.{Sent}
 use Rattle.client_core.specs.Asking.{Command}
-use Rattle.client_core.specs.Clients.{Asks, ClientView, Hears, Rejects, Relearns, book_after, having_sent, took_of, with_signed}
+use Rattle.client_core.specs.Clients.{Asks, ClientView, Hears, Rejects, Relearns, book_after, having_sent, took_of, with_signed, side_sent}
 use Rattle.client_core.specs.Keeping.{StaysAs, note_of_side}
 use Rattle.client_core.specs.Sides.{SideView, side_of, with_side}
 use Rattle.client_core.specs.Taking.{heard, relearnt, side_after, take}
@@ -113,6 +114,44 @@ heard-stays d before after sent bytes news hears =
     (puts before sent.wall hears.side (side_after hears.side (checked_view hears.checked)) before.signer
     (book_after before.book hears.side hears.checked)
     hears.found (side-so hears.side hears.checked) (book-so before.book hears.side hears.checked))
+
+-- the side that a call leaves on its wall
+left-side : (before : ClientView) (wall : ℕ) (s t u : SideView) → side_of wall before.sides ≡ Some s
+    → t.known.wall ≡ s.known.wall → side_of wall (with_side s.known.wall t before.sides) ≡ Some u → u ≡ t
+left-side before wall s t u found walls after =
+    let at = found-wall wall before.sides s found in
+    let own = subst (λ (w : ℕ). side_of w before.sides ≡ Some s) (sym at) found in
+    let put : side_of wall (with_side s.known.wall t before.sides) ≡ Some t =
+    subst (λ (w : ℕ). side_of w (with_side s.known.wall t before.sides) ≡ Some t) at
+    (put-found s.known.wall t before.sides s own walls) in
+    let f = sym after ∙ put in cc
+
+sent-side : (before : ClientView) (wall : ℕ) (s t : SideView) (signed : Option Op) → side_of wall before.sides ≡ Some s
+    → side_of wall (having_sent before s signed).sides ≡ Some t → t ≡ side_sent s signed
+sent-side before wall s t None found after = one-side wall before t s after found
+sent-side before wall s t (Some op) found after =
+    left-side before wall s (record s { next = s.next + 1 }) t found refl after
+
+pub asked-side : (before after : ClientView) (wall : ℕ) (command : Command) (sent : Sent)
+    → Asks before wall command sent after → (s t : SideView) → side_of wall before.sides ≡ Some s
+    → side_of wall after.sides ≡ Some t → t ≡ side_sent s sent.signed
+asked-side before after wall command sent asks s t found found-after =
+    let there = subst (λ (c : ClientView). side_of wall c.sides ≡ Some t) asks.after_is found-after in
+    sent-side before wall asks.side t sent.signed asks.found there
+    ∙ ap (λ (x : SideView). side_sent x sent.signed) (one-side wall before asks.side s asks.found found)
+
+pub learnt-side : (d : Digest) (before after : ClientView) (wall : ℕ) (bytes : Text)
+    → Relearns d before wall bytes after → (s t : SideView) → side_of wall before.sides ≡ Some s
+    → side_of wall after.sides ≡ Some t
+    → (changes : List Op) × (keys_judged d s.known bytes ≡ Ok changes) × (t ≡ relearnt s changes)
+learnt-side d before after wall bytes learns s t found found-after =
+    let there = subst (λ (c : ClientView). side_of wall c.sides ≡ Some t) learns.after_is found-after in
+    let same = one-side wall before learns.side s learns.found found in (
+      learns.changes,
+      subst (λ (x : SideView). keys_judged d x.known bytes ≡ Ok learns.changes) same learns.judged_so,
+      left-side before wall learns.side (relearnt learns.side learns.changes) t learns.found refl there
+          ∙ ap (λ (x : SideView). relearnt x learns.changes) same,
+    )
 
 pub heard-takes : (d : Digest) (before after : ClientView) (sent : Sent) (bytes : Text) (news : News)
     → Hears d before sent bytes news after

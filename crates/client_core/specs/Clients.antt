@@ -81,6 +81,11 @@ book_after book s (Taken view from proof leaves dicts) = with_took book
 
 -- ---- asking
 
+-- the side that has sent this
+abbrev pub side_sent : SideView → Option Op → SideView
+side_sent s None = s
+side_sent s (Some op) = record s { next = s.next + 1 }
+
 -- the client that has sent this to the wall of a side
 abbrev pub having_sent : ClientView → SideView → Option Op → ClientView
 having_sent c s None = c

@@ -1,5 +1,6 @@
 //! The laws of clients. Each function has an empty body, and its contract is the law.
-ghost use Rattle.std.specs.Prelude.{◌≡◌, Err, Ok, Some, ℕ};
+ghost use Rattle.std.specs.Prelude.{◌≡◌, Err, List, Ok, Some, ℕ};
+ghost use Rattle.check_rules.specs.Verdict.{keys_judged};
 ghost use Rattle.fr_bytes.specs.Bytes.{Text};
 ghost use Rattle.fr_digest.specs.Digest.{Digest};
 ghost use Rattle.msg_form.specs.declared.verdict.Verdict.{Verdict};
@@ -13,10 +14,10 @@ ghost use Rattle.client_core.specs.Uses.{IsMade, OpUses};
 ghost use Rattle.client_core.specs.declared.news.News.{News};
 ghost use Rattle.client_core.specs.declared.sent.Sent.{Sent};
 ghost use Rattle.client_core.specs.Asking.{Command};
-ghost use Rattle.client_core.specs.Clients.{Asks, ClientView, Hears, Rejects, Relearns};
+ghost use Rattle.client_core.specs.Clients.{Asks, ClientView, Hears, Rejects, Relearns, side_sent};
 ghost use Rattle.client_core.specs.Keeping.{StaysAs};
 ghost use Rattle.client_core.specs.Sides.{SideView, side_of};
-ghost use Rattle.client_core.specs.Taking.{take};
+ghost use Rattle.client_core.specs.Taking.{relearnt, take};
 
 /// What a client asks of a wall, hears and learns of it leaves its sides of other walls as they were, and what everybody
 /// knows of the walls, the users, and whose book it is.
@@ -27,6 +28,18 @@ pub fn walls()
         → Hears d before sent bytes news after → StaysAs before sent.wall after }
     ensures learnt { (d : Digest) (before after : ClientView) (wall : ℕ) (bytes : Text)
         → Relearns d before wall bytes after → StaysAs before wall after }
+{}
+
+/// What a call leaves of its wall's side: an operation that is sent uses a number, and changes that are learnt come in the
+/// place of all that was held.
+pub fn sides()
+    ensures asked { (before after : ClientView) (wall : ℕ) (command : Command) (sent : Sent)
+        → Asks before wall command sent after → (s t : SideView) → side_of wall before.sides ≡ Some s
+        → side_of wall after.sides ≡ Some t → t ≡ side_sent s sent.signed }
+    ensures learnt { (d : Digest) (before after : ClientView) (wall : ℕ) (bytes : Text)
+        → Relearns d before wall bytes after → (s t : SideView) → side_of wall before.sides ≡ Some s
+        → side_of wall after.sides ≡ Some t
+        → (changes : List Op) × (keys_judged d s.known bytes ≡ Ok changes) × (t ≡ relearnt s changes) }
 {}
 
 /// A client that hears a reply makes of it, and is left with, what the plain client is.
