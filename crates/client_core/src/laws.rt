@@ -8,8 +8,11 @@ ghost use Rattle.key_graph.specs.declared.change.Setting.{Setting};
 ghost use Rattle.key_graph.specs.Streams.{Use};
 ghost use Rattle.op_types.specs.declared.op.Op.{Op};
 ghost use Rattle.world_book.specs.declared.world.World.{World};
-ghost use Rattle.world_book.specs.Kept.{Kept};
-ghost use Rattle.world_book.specs.Records.{Signs};
+ghost use Rattle.lms_tree.specs.Valid.{Key};
+ghost use Rattle.world_book.specs.declared.book.UserBook.{UserBook};
+ghost use Rattle.world_book.specs.declared.world.WallNote.{WallNote};
+ghost use Rattle.world_book.specs.Kept.{Kept, KeptBook};
+ghost use Rattle.world_book.specs.Records.{Signs, note_of};
 ghost use Rattle.client_core.specs.Uses.{IsMade, OpUses};
 ghost use Rattle.client_core.specs.declared.news.News.{News};
 ghost use Rattle.client_core.specs.declared.sent.Sent.{Sent};
@@ -50,6 +53,13 @@ pub fn replies()
     ensures rejected { (d : Digest) (c : ClientView) (sent : Sent) (bytes : Text) (verdict : Verdict)
         → Rejects d c sent bytes verdict → (s : SideView) → side_of sent.wall c.sides ≡ Some s
         → take d s sent.asked bytes ≡ Err verdict }
+{}
+
+/// A book that is kept with the notes of a client's walls is kept with all walls' notes, whatever their order.
+pub fn notes()
+    ensures { (d : Digest) (notes others : List WallNote) (keys : List (ℕ × Key)) (book : UserBook)
+        → ((wall : ℕ) (n : WallNote) → note_of notes wall ≡ Some n → note_of others wall ≡ Some n)
+        → KeptBook d notes keys book → KeptBook d others keys book }
 {}
 
 /// No two operations on one wall that honest users signed use one stream of one key, where they are made by the rules, as
