@@ -46,7 +46,8 @@ use Rattle.client_core.specs.Keys.{IsNumbered}
 use Rattle.client_core.specs.Keeping.{IsSound, IsTaken, ShowsLeaves}
 
 -- a fact of what stands at each place
-pub all-places : {A : Type 0} (P : A → Type 0) (xs : List A) → ((i : ℕ) (x : A) → slice_get xs i ≡ Some x → P x) → AllByRecursion P xs
+pub all-places : {A : Type 0} (P : A → Type 0) (xs : List A) → ((i : ℕ) (x : A) → slice_get xs i ≡ Some x → P x)
+    → AllByRecursion P xs
 all-places P [] each = tt
 all-places P (x ∷ xs) each = (each 0 x refl, all-places P xs (λ i y at. each (suc i) y at))
 
@@ -57,7 +58,8 @@ read-tree bytes p are e =
     let read = bind_some (all_of pruned_at bytes) (λ tree. if holds_leaves tree then Some tree else None) p e in
     by read.0 (holds_leaves read.0) refl (all_found pruned_format exact_pruned bytes read.0 are read.1).0 read.2
   where
-    by : (q : Tree) (b : Bool) → holds_leaves q ≡ b → IsSpelled q → (if b then Some q else None) ≡ Some p → HoldsLeaves p
+    by : (q : Tree) (b : Bool) → holds_leaves q ≡ b → IsSpelled q → (if b then Some q else None) ≡ Some p
+        → HoldsLeaves p
     by q true holds spelled e' = let same : q ≡ p = cc in subst HoldsLeaves same (spelled-leaves q spelled holds)
     by q false holds spelled e' = absurd cc
 
@@ -76,7 +78,8 @@ pub record AreParts (count : ℕ) (t : Text) (ts : List Text) : Type 0 where
   pub lists : length ts ≡ count
 
 parts : (count : ℕ) (b : Bool) (t : Text) (ts : List Text) → nat_lt 0 count ≡ b
-    → fit_optional b ([], []) (both counted_bytes (λ tree. times count counted_bytes)).fits (t, ts) → AreParts count t ts
+    → fit_optional b ([], []) (both counted_bytes (λ tree. times count counted_bytes)).fits (t, ts)
+    → AreParts count t ts
 parts count true t ts e h = record { tree = h.0.1; lists = h.1.0 }
 parts count false t ts e h =
     let none : [] ≡ t = sym (ap (λ (p : Text × List Text). p.0) h) in
@@ -90,16 +93,19 @@ pub record Shows (view : View) (from : ℕ) (tree : Tree) (lists : List PrunedLi
   pub tree_is : HoldsLeaves tree
   pub lists_are : length lists ≡ view.size - from
 
-shows : (w : View) (from f : ℕ) (t : Text) (ts : List Text) (view : View) (p : Tree) (ls : List PrunedList) → HasParts (Show w f t ts)
+shows : (w : View) (from f : ℕ) (t : Text) (ts : List Text) (view : View) (p : Tree) (ls : List PrunedList)
+    → HasParts (Show w f t ts)
     → heard_show w f t ts ≡ Some (news view from p ls) → Shows view from p ls
 shows w from f t ts view p ls has e = by (nat_lt f w.size) e
   where
     are : AreParts (w.size - f) t ts
     are = parts (w.size - f) (nat_lt 0 (w.size - f)) t ts refl has.1.1.1
 
-    by : (b : Bool) → (if b then tree_of t >>= (λ q. lists_of ts >>= (λ xs. Some (news w f q xs))) else Some (bare w)) ≡ Some (news view from p ls) → Shows view from p ls
+    by : (b : Bool) → (if b then tree_of t >>= (λ q. lists_of ts >>= (λ xs. Some (news w f q xs))) else Some
+        (bare w)) ≡ Some (news view from p ls) → Shows view from p ls
     by true e' =
-        let read = bind_some (tree_of t) (λ q. lists_of ts >>= (λ xs. Some (news w f q xs))) (news view from p ls) e' in
+        let read = bind_some (tree_of t) (λ q. lists_of ts >>= (λ xs. Some (news w f q xs)))
+        (news view from p ls) e' in
         let lists = bind_some (lists_of ts) (λ xs. Some (news w f read.0 xs)) (news view from p ls) read.2 in
         let all = lists.2 in
         let same-view : w ≡ view = cc in
@@ -114,14 +120,16 @@ shows w from f t ts view p ls has e = by (nat_lt f w.size) e
         }
     by false e' = absurd cc
 
-shows-heard : (appends : Bool) (reply : Reply) (from : ℕ) (view : View) (p : Tree) (ls : List PrunedList) → HasParts reply
+shows-heard : (appends : Bool) (reply : Reply) (from : ℕ) (view : View) (p : Tree) (ls : List PrunedList)
+    → HasParts reply
     → heard_in appends reply ≡ Some (news view from p ls) → Shows view from p ls
 shows-heard appends (Show w f t ts) from view p ls has e = shows w from f t ts view p ls has e
 shows-heard true (Refused wall cause number) from view p ls has e = absurd cc
 shows-heard false (Refused wall cause number) from view p ls has e = absurd cc
 shows-heard appends (KeyOps wall size t) from view p ls has e = absurd cc
 
-heard-shows : (appends : Bool) (bytes : Text) (from : ℕ) (view : View) (p : Tree) (ls : List PrunedList) → IsBytes bytes
+heard-shows : (appends : Bool) (bytes : Text) (from : ℕ) (view : View) (p : Tree) (ls : List PrunedList)
+    → IsBytes bytes
     → heard_of appends bytes ≡ Some (news view from p ls) → Shows view from p ls
 unfolding heard_of
 heard-shows appends bytes from view p ls are e =
@@ -130,19 +138,22 @@ heard-shows appends bytes from view p ls are e =
 
 -- ---- what is taken
 
-taken-is : (d : Digest) (known : Known) (asked : Asked) (bytes : Text) (view : View) (from : ℕ) (proof : Pruned) (leaves : List Leaf) (dicts : List PrunedDict)
+taken-is : (d : Digest) (known : Known) (asked : Asked) (bytes : Text) (view : View) (from : ℕ) (proof : Pruned)
+    (leaves : List Leaf) (dicts : List PrunedDict)
     → IsBytes bytes → judged d known asked bytes ≡ Ok (taken view from (tree_view proof) leaves (map list_view dicts))
     → IsTaken d known view from proof leaves dicts
 taken-is d known asked bytes view from proof leaves dicts are e =
     let says = (takes d known asked bytes view from (tree_view proof) leaves (map list_view dicts) e).says in
-    let shown-is = heard-shows (is_append asked) bytes from view (tree_view proof) (map list_view dicts) are says.heard in
+    let shown-is = heard-shows (is_append asked) bytes from view (tree_view proof)
+    (map list_view dicts) are says.heard in
     let all = shown-from (tree_view proof) view.size from shown-is.tree_is says.accepted.some says.accepted.shows in
     record {
       view_is = subst (λ (w : ℕ). IsView w view) says.wall shown-is.view_is;
       accepted = says.accepted;
       spelled = shown-is.tree_is;
       leaves_are = says.leaves_are;
-      lists = sym (length-map dicts list_view) ∙ (shown-is.lists_are ∙ (sym all.many ∙ ap length (sym says.leaves_are)));
+      lists = sym (length-map dicts list_view) ∙ (shown-is.lists_are ∙ (sym all.many
+          ∙ ap length (sym says.leaves_are)));
       in_range = subst (AllByRecursion IsLeaf) (sym says.leaves_are)
           (all-places IsLeaf (leaves_from (tree_view proof) view.size from) (λ i l at. (all.each i l at).is_leaf));
     }
@@ -151,14 +162,16 @@ taken-is d known asked bytes view from proof leaves dicts are e =
 pub sound : (d : Digest) (known : Known) (asked : Asked) (bytes : Text) (checked : Checked) → IsBytes bytes
     → judged d known asked bytes ≡ Ok (checked_view checked) → IsSound d known checked
 sound d known asked bytes (answers.Same size) are e = tt
-sound d known asked bytes (answers.Taken view from proof leaves dicts) are e = taken-is d known asked bytes view from proof leaves dicts are e
+sound d known asked bytes (answers.Taken view from proof leaves dicts) are e = taken-is d known asked bytes view
+    from proof leaves dicts are e
 sound d known asked bytes (answers.Refused cause number) are e = tt
 
 -- ---- changes of the access list
 
 some-leaf : (t : Text) → HoldsLeaves (leaf t) → AllByRecursion IsLeaf (with_some (leaf_of t) [])
 unfolding HoldsLeaves
-some-leaf t h = subst (λ (o : Option Leaf). AllByRecursion IsLeaf (with_some o [])) (sym (leaf_again t h.0 h.1)) (h.1.is_leaf, tt)
+some-leaf t h = subst (λ (o : Option Leaf). AllByRecursion IsLeaf (with_some o [])) (sym (leaf_again t h.0 h.1))
+    (h.1.is_leaf, tt)
 
 leaves-in : (p : Tree) → HoldsLeaves p → AllByRecursion IsLeaf (leaves_in p)
 unfolding leaves_in HoldsLeaves
@@ -191,18 +204,21 @@ keys-heard bytes k are e =
     keys-tree read.0 k (reply-spelled read.0 bytes are read.1).is_reply.parts read.2
 
 -- the changes of a reply that is taken are numbered
-pub keys-numbered : (d : Digest) (known : Known) (bytes : Text) (changes : List Op) → IsBytes bytes → keys_judged d known bytes ≡ Ok changes
+pub keys-numbered : (d : Digest) (known : Known) (bytes : Text) (changes : List Op) → IsBytes bytes
+    → keys_judged d known bytes ≡ Ok changes
     → AllByRecursion IsNumbered changes
 unfolding keys_judged
 keys-numbered d known bytes changes are e = by (keys_heard_of bytes) refl e
   where
-    by-verdict : (k : KeysHeard) (v : Option Verdict) → HoldsLeaves k.tree → changes_or (changes_of (leaves_in k.tree)) v ≡ Ok changes → AllByRecursion IsNumbered changes
+    by-verdict : (k : KeysHeard) (v : Option Verdict) → HoldsLeaves k.tree
+        → changes_or (changes_of (leaves_in k.tree)) v ≡ Ok changes → AllByRecursion IsNumbered changes
     by-verdict k None h e' =
         let same : changes_of (leaves_in k.tree) ≡ changes = cc in
         subst (AllByRecursion IsNumbered) same (numbered (leaves_in k.tree) (leaves-in k.tree h))
     by-verdict k (Some v) h e' = absurd cc
 
-    by : (o : Option KeysHeard) → keys_heard_of bytes ≡ o → keys_judged_heard d known o ≡ Ok changes → AllByRecursion IsNumbered changes
+    by : (o : Option KeysHeard) → keys_heard_of bytes ≡ o → keys_judged_heard d known o ≡ Ok changes
+        → AllByRecursion IsNumbered changes
     by None same e' = absurd cc
     by (Some k) same e' = by-verdict k (keys_verdict d known k) (keys-heard bytes k are same) e'
 

@@ -8,3 +8,4 @@ pub mod Steps
 pub mod Walls
 pub mod KeysHeld
 pub mod Streams
+pub mod Notes

@@ -9,21 +9,25 @@ use Rattle.client_core.specs.declared.side.Side.{Side}
 use Rattle.client_core.specs.Sides.{HasSide, IsSide, SideView, place_of, side_of, side_view, sides_view, with_side}
 use Rattle.client_core.proofs.Lists.{all_set}
 
-pub place-here : (wall : ℕ) (sides : List Side) (i : ℕ) (d : Side) → i < length sides → nat_eq (get_or sides i d).known.wall wall ≡ true
+pub place-here : (wall : ℕ) (sides : List Side) (i : ℕ) (d : Side) → i < length sides
+    → nat_eq (get_or sides i d).known.wall wall ≡ true
     → place_of wall (sides_view (drop i sides)) ≡ 0
 place-here wall sides i d h is = rw (drop-cons sides i d, is) refl
 
-pub place-on : (wall : ℕ) (sides : List Side) (i : ℕ) (d : Side) → i < length sides → nat_eq (get_or sides i d).known.wall wall ≡ false
+pub place-on : (wall : ℕ) (sides : List Side) (i : ℕ) (d : Side) → i < length sides
+    → nat_eq (get_or sides i d).known.wall wall ≡ false
     → place_of wall (sides_view (drop i sides)) ≡ suc (place_of wall (sides_view (drop (i + 1) sides)))
 place-on wall sides i d h other = rw (add-one i, drop-cons sides i d, other) refl
 
 -- what stands at a place
-pub get-view : (sides : List Side) (i : ℕ) (d : Side) → i < length sides → slice_get (sides_view sides) i ≡ Some (side_view (get_or sides i d))
+pub get-view : (sides : List Side) (i : ℕ) (d : Side) → i < length sides → slice_get (sides_view sides) i
+    ≡ Some (side_view (get_or sides i d))
 get-view [] i d h = absurd (omega arith)
 get-view (s ∷ sides) zero d h = refl
 get-view (s ∷ sides) (suc i) d h = get-view sides i d (omega arith)
 
-pub set-view : (sides : List Side) (i : ℕ) (s : Side) → sides_view (set sides i s) ≡ set (sides_view sides) i (side_view s)
+pub set-view : (sides : List Side) (i : ℕ) (s : Side) → sides_view (set sides i s)
+    ≡ set (sides_view sides) i (side_view s)
 set-view [] i s = refl
 set-view (x ∷ sides) zero s = refl
 set-view (x ∷ sides) (suc i) s = ap (λ (l : List SideView). side_view x ∷ l) (set-view sides i s)
@@ -32,7 +36,8 @@ pub set-same : (sides : List Side) (i : ℕ) (s d : Side) → i < length sides �
     → sides_view (set sides i s) ≡ sides_view sides
 set-same [] i s d h e = refl
 set-same (x ∷ sides) zero s d h e = ap (λ (v : SideView). v ∷ sides_view sides) e
-set-same (x ∷ sides) (suc i) s d h e = ap (λ (l : List SideView). side_view x ∷ l) (set-same sides i s d (omega arith) e)
+set-same (x ∷ sides) (suc i) s d h e = ap (λ (l : List SideView). side_view x ∷ l) (set-same sides i s d
+    (omega arith) e)
 
 pub length-view : (sides : List Side) → length (sides_view sides) ≡ length sides
 length-view [] = refl
@@ -45,26 +50,30 @@ found-wall wall (x ∷ sides) s e = by (nat_eq x.known.wall wall) refl (found-wa
   where
     by : (b : Bool) → nat_eq x.known.wall wall ≡ b → (side_of wall sides ≡ Some s → s.known.wall ≡ wall)
         → slice_get (x ∷ sides) (if b then 0 else suc (place_of wall sides)) ≡ Some s → s.known.wall ≡ wall
-    by true is rest e' = let same : x ≡ s = cc in subst (λ (y : SideView). y.known.wall ≡ wall) same (eqb-true x.known.wall wall is)
+    by true is rest e' = let same : x ≡ s = cc in subst (λ (y : SideView). y.known.wall
+        ≡ wall) same (eqb-true x.known.wall wall is)
     by false other rest e' = rest e'
 
 pub has-side : (wall : ℕ) (sides : List SideView) (s : SideView) → side_of wall sides ≡ Some s → HasSide wall sides
 has-side wall sides s e = slice_get_within sides (place_of wall sides) s e
 
 -- each side is one
-pub side-at : (sides : List Side) (i : ℕ) (d : Side) → AllByRecursion IsSide (sides_view sides) → i < length sides → IsSide (side_view (get_or sides i d))
+pub side-at : (sides : List Side) (i : ℕ) (d : Side) → AllByRecursion IsSide (sides_view sides)
+    → i < length sides → IsSide (side_view (get_or sides i d))
 side-at [] i d all h = absurd (omega arith)
 side-at (s ∷ sides) zero d all h = all.0
 side-at (s ∷ sides) (suc i) d all h = side-at sides i d all.1 (omega arith)
 
-pub sides-set : (sides : List Side) (i : ℕ) (s : Side) → AllByRecursion IsSide (sides_view sides) → IsSide (side_view s) → AllByRecursion IsSide (sides_view (set sides i s))
+pub sides-set : (sides : List Side) (i : ℕ) (s : Side) → AllByRecursion IsSide (sides_view sides)
+    → IsSide (side_view s) → AllByRecursion IsSide (sides_view (set sides i s))
 sides-set [] i s all h = tt
 sides-set (x ∷ sides) zero s all h = (h, all.1)
 sides-set (x ∷ sides) (suc i) s all h = (all.0, sides-set sides i s all.1 h)
 
 -- ---- the sides of several walls, where one of them is put
 
-pub put-found : (w : ℕ) (t : SideView) (sides : List SideView) (s : SideView) → side_of w sides ≡ Some s → t.known.wall ≡ w
+pub put-found : (w : ℕ) (t : SideView) (sides : List SideView) (s : SideView) → side_of w sides ≡ Some s
+    → t.known.wall ≡ w
     → side_of w (with_side w t sides) ≡ Some t
 put-found w t [] s e h = absurd cc
 put-found w t (x ∷ sides) s e h = by (nat_eq x.known.wall w) refl (λ e'. put-found w t sides s e' h) e
@@ -104,7 +113,8 @@ put-same w (x ∷ sides) s e = by (nat_eq x.known.wall w) (put-same w sides s) e
     by false rest e' = ap (λ (l : List SideView). x ∷ l) (rest e')
 
 -- what the sides have in common stays where the one that is put has it too
-pub put-map : {A : Type 0} (f : SideView → A) (w : ℕ) (t : SideView) (sides : List SideView) (s : SideView) → side_of w sides ≡ Some s → f t ≡ f s
+pub put-map : {A : Type 0} (f : SideView → A) (w : ℕ) (t : SideView) (sides : List SideView) (s : SideView)
+    → side_of w sides ≡ Some s → f t ≡ f s
     → map f (with_side w t sides) ≡ map f sides
 put-map f w t [] s e h = refl
 put-map f w t (x ∷ sides) s e h = by (nat_eq x.known.wall w) (λ e'. put-map f w t sides s e' h) e
@@ -115,10 +125,12 @@ put-map f w t (x ∷ sides) s e h = by (nat_eq x.known.wall w) (λ e'. put-map f
     by true rest e' = let same : s ≡ x = cc in ap (λ y. y ∷ map f sides) (h ∙ ap f same)
     by false rest e' = ap (λ l. f x ∷ l) (rest e')
 
-pub each-found : (P : SideView → Type 0) (w : ℕ) (sides : List SideView) (s : SideView) → AllByRecursion P sides → side_of w sides ≡ Some s → P s
+pub each-found : (P : SideView → Type 0) (w : ℕ) (sides : List SideView) (s : SideView) → AllByRecursion P sides
+    → side_of w sides ≡ Some s → P s
 each-found P w sides s all e = each-of P sides (place_of w sides) s all e
 
-pub each-put : (P : SideView → Type 0) (w : ℕ) (t : SideView) (sides : List SideView) → AllByRecursion P sides → P t → AllByRecursion P (with_side w t sides)
+pub each-put : (P : SideView → Type 0) (w : ℕ) (t : SideView) (sides : List SideView) → AllByRecursion P sides
+    → P t → AllByRecursion P (with_side w t sides)
 each-put P w t sides all h = all_set P sides (place_of w sides) t all h
 
 -- The side at the place of a wall, and the sides with another in its place.
@@ -131,19 +143,23 @@ pub record At (wall : ℕ) (sides : List Side) (i : ℕ) (s : Side) : Type 0 whe
   pub same : (t : Side) → side_view t ≡ side_view s → sides_view (set sides i t) ≡ sides_view sides
   pub is_side : AllByRecursion IsSide (sides_view sides) → IsSide (side_view s)
 
-pub at-place : (wall : ℕ) (sides : List Side) (i : ℕ) (s : Side) → i ≡ place_of wall (sides_view sides) → HasSide wall (sides_view sides)
+pub at-place : (wall : ℕ) (sides : List Side) (i : ℕ) (s : Side) → i ≡ place_of wall (sides_view sides)
+    → HasSide wall (sides_view sides)
     → s ≡ get_or sides i s → At wall sides i s
 at-place wall sides i s e h is =
-    let within : i < length sides = let n = length-view sides in let h' : place_of wall (sides_view sides) < length (sides_view sides) = h in omega arith in
+    let within : i < length sides = let n = length-view sides in let h' : place_of wall
+    (sides_view sides) < length (sides_view sides) = h in omega arith in
     let found : side_of wall (sides_view sides) ≡ Some (side_view s) =
-    ap (slice_get (sides_view sides)) (sym e) ∙ (get-view sides i s within ∙ ap (λ (x : Side). Some (side_view x)) (sym is)) in
+    ap (slice_get (sides_view sides)) (sym e) ∙ (get-view sides i s within
+    ∙ ap (λ (x : Side). Some (side_view x)) (sym is)) in
     let wall-is = found-wall wall (sides_view sides) (side_view s) found in
     record {
       within = within;
       found = found;
       own = subst (λ (w : ℕ). side_of w (sides_view sides) ≡ Some (side_view s)) (sym wall-is) found;
       of_wall = wall-is;
-      put = λ t. set-view sides i t ∙ (ap (λ (k : ℕ). set (sides_view sides) k (side_view t)) (e ∙ ap (λ (w : ℕ). place_of w (sides_view sides)) (sym wall-is)));
+      put = λ t. set-view sides i t ∙ (ap (λ (k : ℕ). set (sides_view sides) k (side_view t)) (e
+          ∙ ap (λ (w : ℕ). place_of w (sides_view sides)) (sym wall-is)));
       same = λ t eq. set-same sides i t s within (eq ∙ ap side_view is);
       is_side = λ all. subst (λ (x : Side). IsSide (side_view x)) (sym is) (side-at sides i s all within);
     }

@@ -30,7 +30,8 @@ use Rattle.client_core.proofs.Places.{At}
 abbrev pub now : Signing → List Side → UserBook → ClientView
 now signer sides book = client_view (record { signer = signer; sides = sides; book = book })
 
-module _ (d : Digest) (signer : Signing) (sides : List Side) (book : UserBook) (wall i : ℕ) (s : Side) (at : At wall sides i s)
+module _ (d : Digest) (signer : Signing) (sides : List Side) (book : UserBook) (wall i : ℕ) (s : Side)
+    (at : At wall sides i s)
     (kept : Keeps d (now signer sides book)) (new : Side) where
   -- the side is the same, and so is the rest
   pub unmoved : (sg : Signing) (b : UserBook) → sg ≡ signer → side_view new ≡ side_view s → b ≡ book
@@ -38,10 +39,16 @@ module _ (d : Digest) (signer : Signing) (sides : List Side) (book : UserBook) (
   unmoved sg b e f g = rw (e, at.same new f, g) refl
 
   put-so : (sg sg' : Signing) (b b' : UserBook) (t : SideView) → sg ≡ sg' → side_view new ≡ t → b ≡ b'
-      → now sg (slice_set sides i new) b ≡ record { signer = sg'; sides = with_side s.known.wall t (sides_view sides); book = b' }
+      → now sg (slice_set sides i new) b ≡ record {
+        signer = sg';
+        sides = with_side s.known.wall t
+            (sides_view sides);
+        book = b';
+      }
   put-so sg sg' b b' t e f g = rw (e, at.put new, f, g) refl
 
-  pub still : (sg : Signing) (b : UserBook) → sg ≡ signer → side_view new ≡ side_view s → b ≡ book → Keeps d (now sg (slice_set sides i new) b)
+  pub still : (sg : Signing) (b : UserBook) → sg ≡ signer → side_view new ≡ side_view s → b ≡ book
+      → Keeps d (now sg (slice_set sides i new) b)
   still sg b e f g = subst (Keeps d) (sym (unmoved sg b e f g)) kept
 
   -- ---- a reply
@@ -49,24 +56,37 @@ module _ (d : Digest) (signer : Signing) (sides : List Side) (book : UserBook) (
   pub heard-so : (checked : Checked) (b : UserBook) → side_view new ≡ side_after (side_view s) (checked_view checked)
       → b ≡ book_after book (side_view s) checked
       → now signer (slice_set sides i new) b ≡ having_taken (now signer sides book) (side_view s) checked
-  heard-so checked b e f = put-so signer signer b (book_after book (side_view s) checked) (side_after (side_view s) (checked_view checked)) refl e f
+  heard-so checked b e f = put-so signer signer b (book_after book (side_view s) checked) (side_after
+      (side_view s) (checked_view checked)) refl e f
 
-  pub heard-keeps : (checked : Checked) (b : UserBook) → IsSound d s.known checked → side_view new ≡ side_after (side_view s) (checked_view checked)
+  pub heard-keeps : (checked : Checked) (b : UserBook) → IsSound d s.known checked → side_view new
+      ≡ side_after (side_view s) (checked_view checked)
       → b ≡ book_after book (side_view s) checked → Keeps d (now signer (slice_set sides i new) b)
-  heard-keeps checked b is e f = subst (Keeps d) (sym (heard-so checked b e f)) (taken-keeps d (now signer sides book) (side_view s) checked kept at.own is)
+  heard-keeps checked b is e f = subst (Keeps d) (sym (heard-so checked b e f)) (taken-keeps d
+      (now signer sides book) (side_view s) checked kept at.own is)
 
   pub makes : (checked : Checked) (b : UserBook) (news : News) → news ≡ news_of (checked_view checked)
       → side_view new ≡ side_after (side_view s) (checked_view checked) → b ≡ book_after book (side_view s) checked
       → Makes (now signer sides book) wall checked news (now signer (slice_set sides i new) b)
-  makes checked b news n e f = record { side = side_view s; found = at.found; news_is = n; after_is = heard-so checked b e f }
+  makes checked b news n e f = record {
+    side = side_view s;
+    found = at.found;
+    news_is = n;
+    after_is = heard-so
+        checked b e f;
+  }
 
   -- ---- changes
 
   pub learns-so : (changes : List Op) → side_view new ≡ relearnt (side_view s) changes
-      → now signer (slice_set sides i new) book ≡ record (now signer sides book) { sides = with_side s.known.wall (relearnt (side_view s) changes) (sides_view sides) }
+      → now signer (slice_set sides i new) book ≡ record (now signer sides book) {
+        sides = with_side s.known.wall
+            (relearnt (side_view s) changes) (sides_view sides);
+      }
   learns-so changes e = put-so signer signer book book (relearnt (side_view s) changes) refl e refl
 
-  pub learns-keeps : (changes : List Op) → side_view new ≡ relearnt (side_view s) changes → Keeps d (now signer (slice_set sides i new) book)
+  pub learns-keeps : (changes : List Op) → side_view new ≡ relearnt (side_view s) changes
+      → Keeps d (now signer (slice_set sides i new) book)
   learns-keeps changes e = subst (Keeps d) (sym (learns-so changes e))
       (keys-keep d (now signer sides book) (side_view s) (relearnt (side_view s) changes).keys kept at.own
       (relearnt-keys (side_view s).keys changes))
@@ -80,18 +100,23 @@ module _ (d : Digest) (signer : Signing) (sides : List Side) (book : UserBook) (
   abbrev op-of : Kind → Op
   op-of kind = signed_by signer (unsigned book.user (side_view s) kind)
 
-  sent-so : (kind : Kind) (sg : Signing) (b : UserBook) → sg ≡ once_more signer → side_view new ≡ record (side_view s) { next = s.next + 1 }
+  sent-so : (kind : Kind) (sg : Signing) (b : UserBook) → sg ≡ once_more signer → side_view new
+      ≡ record (side_view s) { next = s.next + 1 }
       → b ≡ with_signed book (op-of kind)
       → now sg (slice_set sides i new) b ≡ having_sent (now signer sides book) (side_view s) (Some (op-of kind))
-  sent-so kind sg b e f g = put-so sg (once_more signer) b (with_signed book (op-of kind)) (record (side_view s) { next = s.next + 1 }) e f g
+  sent-so kind sg b e f g = put-so sg (once_more signer) b (with_signed book (op-of kind)) (record
+      (side_view s) { next = s.next + 1 }) e f g
 
-  pub appends-keeps : (kind : Kind) (sg : Signing) (b : UserBook) → IsMadeOn book.user (side_view s) kind → sg ≡ once_more signer → side_view new ≡ record (side_view s) { next = s.next + 1 }
+  pub appends-keeps : (kind : Kind) (sg : Signing) (b : UserBook) → IsMadeOn book.user (side_view s) kind → sg
+      ≡ once_more signer → side_view new ≡ record (side_view s) { next = s.next + 1 }
       → b ≡ with_signed book (op-of kind) → Keeps d (now sg (slice_set sides i new) b)
   unfolding signed_by
   appends-keeps kind sg b made e f g = subst (Keeps d) (sym (sent-so kind sg b e f g))
-      (sent-keeps d (now signer sides book) (side_view s) kept at.own (op-of kind) (record { author = refl; wall = refl; seq = refl; view = refl; made = made }))
+      (sent-keeps d (now signer sides book) (side_view s) kept at.own (op-of kind)
+      (record { author = refl; wall = refl; seq = refl; view = refl; made = made }))
 
-  own-signed : (kind : Kind) → IsValidNext signer (op_signed (unsigned book.user (side_view s) kind)) → IsAuthorSigned s.known.users (op-of kind)
+  own-signed : (kind : Kind) → IsValidNext signer (op_signed (unsigned book.user (side_view s) kind))
+      → IsAuthorSigned s.known.users (op-of kind)
   unfolding signed_by
   own-signed kind valid = record {
     key = public_of signer.private signer.id signer.pair;
@@ -110,5 +135,6 @@ module _ (d : Digest) (signer : Signing) (sides : List Side) (book : UserBook) (
     found = at.found;
     sent_is = m;
     signed = subst (λ (x : Sent). IfSome x.signed (IsAuthorSigned s.known.users)) (sym m) (own-signed kind valid);
-    after_is = sent-so kind sg b e f g ∙ ap (having_sent (now signer sides book) (side_view s)) (sym (ap (λ (x : Sent). x.signed) m));
+    after_is = sent-so kind sg b e f g ∙ ap (having_sent (now signer sides book) (side_view s)) (sym (ap (λ
+        (x : Sent). x.signed) m));
   }

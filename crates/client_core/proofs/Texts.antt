@@ -13,8 +13,10 @@ use Rattle.msg_form.specs.declared.tags.TheConstants.{APPEND_TAG}
 use Rattle.signed_ops.specs.Signed.{with_sig}
 
 -- the bytes of a list of the same length in the place of the last
-pub ends : (front old new : Text) → length new ≡ length old → take (length (front ++ old) - length new) (front ++ old) ++ new ≡ front ++ new
-ends front old new e = ap (λ (x : Text). x ++ new) (take_at front old (length (front ++ old) - length new) (omega (arith, length-append front old)))
+pub ends : (front old new : Text) → length new ≡ length old → take (length (front ++ old) - length new)
+    (front ++ old) ++ new ≡ front ++ new
+ends front old new e = ap (λ (x : Text). x ++ new) (take_at front old (length (front ++ old) - length new) (omega
+    (arith, length-append front old)))
 
 -- the text of a request with an operation of this text
 abbrev before-op : ℕ → ℕ → ℕ → Text
@@ -23,8 +25,10 @@ before-op wall have n = APPEND_TAG ∷ (to_be_bytes w32 wall ++ (to_be_bytes w64
 regrouped : (a b c t : Text) → a ++ (b ++ (c ++ t)) ≡ (a ++ (b ++ c)) ++ t
 regrouped a b c t = simp append_assoc
 
-request-is : (wall have : ℕ) (text : Text) → request_text (requests.Append wall have text) ≡ before-op wall have (length text) ++ text
-request-is wall have text = ap (λ (t : Text). APPEND_TAG ∷ t) (regrouped (to_be_bytes w32 wall) (to_be_bytes w64 have) (to_be_bytes w32 (length text)) text)
+request-is : (wall have : ℕ) (text : Text) → request_text (requests.Append wall have text)
+    ≡ before-op wall have (length text) ++ text
+request-is wall have text = ap (λ (t : Text). APPEND_TAG ∷ t) (regrouped (to_be_bytes w32 wall)
+    (to_be_bytes w64 have) (to_be_bytes w32 (length text)) text)
 
 front-of : Op → Text
 front-of op = unsigned_text op ++ to_be_bytes w32 (length op.sig)
@@ -44,7 +48,8 @@ op-ends op sig e =
     ∙ (ends (front-of op) op.sig sig e
     ∙ (ap (λ (t : Text). t ++ sig) (sym (same-front op sig e)) ∙ sym (op-is (with_sig op sig))))
 
-length-op : (op : Op) (sig : Text) → length sig ≡ length op.sig → length (op_text (with_sig op sig)) ≡ length (op_text op)
+length-op : (op : Op) (sig : Text) → length sig ≡ length op.sig → length (op_text (with_sig op sig))
+    ≡ length (op_text op)
 length-op op sig e =
     ap length (op-is (with_sig op sig)) ∙ (length-append (front-of (with_sig op sig)) sig
     ∙ (ap (λ (t : Text). length t + length sig) (same-front op sig e) ∙ (ap (λ (n : ℕ). length (front-of op) + n) e
@@ -52,12 +57,14 @@ length-op op sig e =
 
 -- the text of a request that ends with it
 pub request-ends : (wall have : ℕ) (op : Op) (sig : Text) → length sig ≡ length op.sig
-    → take (length (request_text (requests.Append wall have (op_text op))) - length sig) (request_text (requests.Append wall have (op_text op))) ++ sig
+    → take (length (request_text (requests.Append wall have (op_text op))) - length sig) (request_text
+    (requests.Append wall have (op_text op))) ++ sig
     ≡ request_text (requests.Append wall have (op_text (with_sig op sig)))
 request-ends wall have op sig e =
     let p = before-op wall have (length (op_text op)) in
     let split : request_text (requests.Append wall have (op_text op)) ≡ (p ++ front-of op) ++ op.sig =
-    request-is wall have (op_text op) ∙ (ap (λ (t : Text). p ++ t) (op-is op) ∙ sym (append_assoc p (front-of op) op.sig)) in
+    request-is wall have (op_text op) ∙ (ap (λ (t : Text). p ++ t) (op-is op)
+    ∙ sym (append_assoc p (front-of op) op.sig)) in
     let joined : (p ++ front-of op) ++ sig ≡ request_text (requests.Append wall have (op_text (with_sig op sig))) =
     append_assoc p (front-of op) sig
     ∙ (ap (λ (t : Text). p ++ (t ++ sig)) (sym (same-front op sig e))
@@ -70,9 +77,11 @@ request-ends wall have op sig e =
 pub op-longer : (op : Op) → length op.sig ≤ length (op_text op)
 op-longer op = let e = ap length (op-is op) ∙ length-append (front-of op) op.sig in omega arith
 
-pub request-longer : (wall have : ℕ) (op : Op) → length op.sig ≤ length (request_text (requests.Append wall have (op_text op)))
+pub request-longer : (wall have : ℕ) (op : Op) → length op.sig ≤ length (request_text (requests.Append wall have
+    (op_text op)))
 request-longer wall have op =
-    let e = ap length (request-is wall have (op_text op)) ∙ length-append (before-op wall have (length (op_text op))) (op_text op) in
+    let e = ap length (request-is wall have (op_text op)) ∙ length-append (before-op wall have (length
+    (op_text op))) (op_text op) in
     let h = op-longer op in omega arith
 
 zeros : (n i : ℕ) → get_or (replicate n 0) i 0 < 256

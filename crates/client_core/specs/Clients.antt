@@ -79,9 +79,15 @@ took_of user s view from proof leaves dicts = record {
 abbrev pub book_after : UserBook → SideView → Checked → UserBook
 book_after book s (Same size) = book
 book_after book s (Refused cause number) = book
-book_after book s (Taken view from proof leaves dicts) = with_took book (took_of book.user s view from proof leaves dicts)
+book_after book s (Taken view from proof leaves dicts) = with_took book
+    (took_of book.user s view from proof leaves dicts)
 
 -- ---- asking
+
+-- the side that has sent this
+abbrev pub side_sent : SideView → Option Op → SideView
+side_sent s None = s
+side_sent s (Some op) = record s { next = s.next + 1 }
 
 -- the client that has sent this to the wall of a side
 abbrev pub having_sent : ClientView → SideView → Option Op → ClientView
@@ -179,7 +185,8 @@ pub record Makes (before : ClientView) (wall : ℕ) (checked : Checked) (news : 
 
 -- A client makes of a reply what the rows say of it, and is then as the plain client is; what it adds to the book is
 -- that reply's.
-pub record Hears (d : Digest) (before : ClientView) (sent : Sent) (bytes : Text) (news : News) (after : ClientView) : Type 0 where
+pub record Hears (d : Digest) (before : ClientView) (sent : Sent) (bytes : Text) (news : News)
+    (after : ClientView) : Type 0 where
   pub side : SideView
   pub found : side_of sent.wall before.sides ≡ Some side
   pub checked : Checked

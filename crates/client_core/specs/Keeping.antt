@@ -42,7 +42,8 @@ users_of (s ∷ sides) = s.known.users
 
 -- The book's operations on a side's wall are made by the rules.
 abbrev pub AreMade : UserBook → SideView → Type 0
-AreMade book s = (setting : Setting) → IsSetting s.keys setting → AllByRecursion (λ (o : Signed). o.op.wall ≡ s.known.wall
+AreMade book s = (setting : Setting) → IsSetting s.keys setting → AllByRecursion (λ (o : Signed). o.op.wall
+    ≡ s.known.wall
     → IsMade setting s.known.owner o.op.author o.op.seq o.op.kind) book.signed
 
 -- and so is what the user does with its next one
@@ -69,7 +70,8 @@ pub record Keeps (d : Digest) (c : ClientView) : Type 0 where
   pub users : (wall : ℕ) (s : SideView) → side_of wall c.sides ≡ Some s → s.known.users ≡ users_of c.sides
   pub book : KeptBook d (notes_of c.sides) (users_of c.sides) c.book
   pub key : c.book.key ≡ public_of c.signer.private c.signer.id c.signer.pair
-  pub own : (wall : ℕ) (s : SideView) → side_of wall c.sides ≡ Some s → key_of s.known.users c.book.user ≡ Some c.book.key
+  pub own : (wall : ℕ) (s : SideView) → side_of wall c.sides ≡ Some s → key_of s.known.users c.book.user
+      ≡ Some c.book.key
   pub keys : (wall : ℕ) (s : SideView) → side_of wall c.sides ≡ Some s → HasKeys c.book.user s
   pub told : c.book.rogue ≡ false → (wall : ℕ) (s : SideView) → side_of wall c.sides ≡ Some s → IsTold c.book s
 
@@ -90,7 +92,8 @@ ShowsLeaves (Refused cause number) = Unit {0}
 ShowsLeaves (Taken view from proof leaves dicts) = AllByRecursion IsLeaf leaves
 
 -- What a reply shows that one who knows this takes.
-pub record IsTaken (d : Digest) (known : Known) (view : View) (from : ℕ) (proof : Pruned) (leaves : List Leaf) (dicts : List PrunedDict) : Type 0 where
+pub record IsTaken (d : Digest) (known : Known) (view : View) (from : ℕ) (proof : Pruned) (leaves : List Leaf)
+    (dicts : List PrunedDict) : Type 0 where
   pub view_is : IsView known.wall view
   pub accepted : Accepted d known view from (tree_view proof) (map list_view dicts)
   pub spelled : HoldsLeaves (tree_view proof)

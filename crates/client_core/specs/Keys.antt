@@ -58,7 +58,12 @@ leaf_of wall secrets user = leaf_text (secret_of secrets user) wall
 abbrev pub followed : Tree → List (ℕ × Text) → ℕ → Kind → Tree
 followed tree secrets g (Post body) = tree
 followed tree secrets g (Admit user role slot wraps) =
-    (followed_by tree (record { generation = g; slot = slot; what = changes.Admit user (leaf_of tree.setting.wall secrets user) })).1
+    (followed_by tree (record {
+      generation = g;
+      slot = slot;
+      what = changes.Admit user
+          (leaf_of tree.setting.wall secrets user);
+    })).1
 followed tree secrets g (Remove user slot wraps) =
     (followed_by tree (record { generation = g; slot = slot; what = changes.Remove user })).1
 

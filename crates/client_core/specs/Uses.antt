@@ -1,6 +1,5 @@
 -- Which streams of which keys the operations of clients use.
 use Rattle.std.specs.Prelude.{◌≡◌, ℕ, ◌+◌, ◌≤◌, true, List}
-use Rattle.fr_bytes.specs.Bytes.{Text}
 use Rattle.op_types.specs.declared.kind.Kind.{Kind}
 use Rattle.op_types.specs.declared.kind.Kind.TheVariants.{Post, Admit, Remove}
 use Rattle.op_types.specs.declared.kind.Wrap.{Wrap}
@@ -8,7 +7,7 @@ use Rattle.op_types.specs.declared.limits.TheConstants.{SEQ_MAX}
 use Rattle.op_types.specs.declared.op.Op.{Op}
 use Rattle.op_types.specs.Kinds.{is_change}
 use Rattle.key_graph.specs.declared.change.Setting.{Setting}
-use Rattle.key_graph.specs.KeyTree.{Plan, Tree}
+use Rattle.key_graph.specs.KeyTree.{Plan}
 use Rattle.key_graph.specs.Reach.{inner}
 use Rattle.key_graph.specs.Streams.{AreFit, IsPlan, Use, WrapUses}
 use Rattle.client_core.specs.Asking.{post_stream}
@@ -30,7 +29,8 @@ pub record IsMade (setting : Setting) (of author seq : ℕ) (kind : Kind) : Type
   pub plan : HasPlan setting seq kind
 
 abbrev pub PlanUses : Setting → ℕ → ℕ → List Wrap → Use → Type 0
-PlanUses setting seq slot wraps u = (p : Plan) × IsPlan setting (seq + 1) slot wraps p × (i : ℕ) × WrapUses setting p i u
+PlanUses setting seq slot wraps u = (p : Plan) × IsPlan setting (seq + 1) slot wraps p × (i : ℕ)
+    × WrapUses setting p i u
 
 -- A post uses the stream of its author and number of a root's key, and a change those that its plan's wraps use.
 abbrev pub KindUses : Setting → ℕ → ℕ → Kind → Use → Type 0

@@ -47,8 +47,10 @@ impl<D: Digester> Client<D> {
     /// the rules. Takes no memory.
     pub fn book(&self) -> &UserBook
         ensures value { result.now ≡ self.now.book }
-        ensures kept { KeptBook D.digest_of (notes_of (sides_view self.now.sides)) (users_of (sides_view self.now.sides)) result.now }
-        ensures made { result.now.rogue ≡ false → (wall : ℕ) (s : SideView) → side_of wall (sides_view self.now.sides) ≡ Some s → AreMade result.now s }
+        ensures kept { KeptBook D.digest_of (notes_of (sides_view self.now.sides)) (users_of
+            (sides_view self.now.sides)) result.now }
+        ensures made { result.now.rogue ≡ false → (wall : ℕ) (s : SideView)
+            → side_of wall (sides_view self.now.sides) ≡ Some s → AreMade result.now s }
     {
         &self.book
     }
@@ -57,8 +59,10 @@ impl<D: Digester> Client<D> {
     /// operation in it is made by the rules. Takes no memory.
     pub fn end(self) -> UserBook
         ensures value { result ≡ self.book }
-        ensures kept { KeptBook D.digest_of (notes_of (sides_view self.sides)) (users_of (sides_view self.sides)) result }
-        ensures made { result.rogue ≡ false → (wall : ℕ) (s : SideView) → side_of wall (sides_view self.sides) ≡ Some s → AreMade result s }
+        ensures kept { KeptBook D.digest_of (notes_of (sides_view self.sides)) (users_of
+            (sides_view self.sides)) result }
+        ensures made { result.rogue ≡ false → (wall : ℕ) (s : SideView) → side_of wall (sides_view self.sides)
+            ≡ Some s → AreMade result s }
     {
         self.book
     }

@@ -163,7 +163,16 @@ fn unsigned(
     requires number { seq ≤ SEQ_MAX }
     requires view { IsView wall view }
     requires kind { IsKind kind }
-    ensures value { result ≡ record { wall = wall; author = author; seq = seq; epoch = epoch; view = view; kind = kind; sig = [] } }
+    ensures value { result ≡ record {
+      wall = wall;
+      author = author;
+      seq = seq;
+      epoch = epoch;
+      view = view;
+      kind =
+          kind;
+      sig = [];
+    } }
     ensures is_op { IsOp result }
 {
     Op {
@@ -240,7 +249,8 @@ impl Side {
         requires { length text.now ≤ BODY_BYTES_MAX }
         ensures posted { IfOk result (λ kind. posted user (side_view self.now) text.now ≡ Ok kind) }
         ensures kind { IfOk result IsKind }
-        ensures declined { IfErr result (λ d. d ≢ declines.NoMemory → posted user (side_view self.now) text.now ≡ Err d) }
+        ensures declined { IfErr result (λ d. d ≢ declines.NoMemory → posted user (side_view self.now) text.now
+            ≡ Err d) }
     {
         let Some(key) = self.keys.root_key(self.known.epoch) else {
             return Err(Decline::NotMember);
@@ -262,7 +272,8 @@ impl Side {
         requires wish { IsWish (wish_view wish) }
         ensures changed { IfOk result (λ kind. changed (side_view self.now) (wish_view wish) ≡ Ok kind) }
         ensures kind { IfOk result IsKind }
-        ensures declined { IfErr result (λ d. d ≢ declines.NoMemory → changed (side_view self.now) (wish_view wish) ≡ Err d) }
+        ensures declined { IfErr result (λ d. d ≢ declines.NoMemory
+            → changed (side_view self.now) (wish_view wish) ≡ Err d) }
     {
         let Keys::Owner { tree, secrets } = &self.keys else {
             return Err(Decline::NotOwner);
@@ -330,7 +341,8 @@ impl Side {
     #[tactic(auto, unfolding(crate::specs::Taking::keys_after))]
     fn keys_after(&self, epoch: u64, leaves: &[Leaf]) -> Result<Option<Keys>, NoMemory>
         requires { AllByRecursion IsLeaf leaves.now }
-        ensures { IfOk result (λ keys. keys_or (keys_view self.now.keys) keys ≡ keys_after (keys_view self.now.keys) epoch leaves.now) }
+        ensures { IfOk result (λ keys. keys_or (keys_view self.now.keys) keys
+            ≡ keys_after (keys_view self.now.keys) epoch leaves.now) }
     {
         let shown = changes_among(leaves);
         if !adds_up(self.keys.held(), shown, epoch) {
@@ -346,7 +358,8 @@ impl Side {
     pub(crate) fn ready(&self, leaves: &[Leaf]) -> Result<Readied, NoMemory>
         requires { AllByRecursion IsLeaf leaves.now }
         ensures epoch { IfOk result (λ r. r.epoch ≡ epoch_after self.now.known.epoch leaves.now) }
-        ensures keys { IfOk result (λ r. keys_or (keys_view self.now.keys) r.keys ≡ keys_after (keys_view self.now.keys) r.epoch leaves.now) }
+        ensures keys { IfOk result (λ r. keys_or (keys_view self.now.keys) r.keys
+            ≡ keys_after (keys_view self.now.keys) r.epoch leaves.now) }
     {
         let epoch = epoch_after(self.known.epoch, leaves);
         let keys = self.keys_after(epoch, leaves)?;
@@ -355,7 +368,8 @@ impl Side {
 
     /// Accepts a view, with the epoch and the keys after it. Takes no memory.
     pub(crate) fn accept(&mut self, view: View, readied: Readied)
-        ensures { side_view self.new ≡ accepting (side_view self.old) view readied.epoch (keys_or (keys_view self.old.keys) readied.keys) }
+        ensures { side_view self.new ≡ accepting (side_view self.old) view readied.epoch (keys_or
+            (keys_view self.old.keys) readied.keys) }
     {
         let Readied { epoch, keys } = readied;
         self.known.size = view.size;

@@ -135,7 +135,8 @@ fn make_room(alloc: Global, book: &mut UserBook, op: &Op) -> Result<Option<Op>, 
 // Fills the place with the operation under its signature. Takes no memory.
 fn fill(book: &mut UserBook, kept: Option<Op>, sig: &[u8])
     requires { IfSome kept (λ op. length sig.now ≡ length op.sig) }
-    ensures { (before : UserBook) (op : Op) → IsRoom before book.old op kept → book.new ≡ with_signed before (with_sig op sig.now) }
+    ensures { (before : UserBook) (op : Op) → IsRoom before book.old op kept → book.new
+        ≡ with_signed before (with_sig op sig.now) }
 {
     if let Some(kept) = kept {
         let op = with_signature(kept, sig);
@@ -167,7 +168,8 @@ fn give_back(book: &mut UserBook, kept: &Option<Op>)
 // The signature of a message by a signer that has leaves left.
 fn signature(signer: &mut Signer, message: &[u8]) -> Result<Bytes, NoMemory>
     requires { signer.old.used < 2 ^ signer.old.pair.lms.h }
-    ensures value { IfOk result (λ sig. sig ≡ signature_at signer.old.private signer.old.id signer.old.pair signer.old.used message.now) }
+    ensures value { IfOk result (λ sig. sig ≡ signature_at signer.old.private signer.old.id signer.old.pair
+        signer.old.used message.now) }
     ensures length { IfOk result (λ sig. length sig ≡ 8 + signer.old.pair.ots.sig_len + 32 * signer.old.pair.lms.h) }
     ensures bytes { IfOk result IsBytes }
     ensures valid { OnOk result (IsValidNext signer.old message.now) }
@@ -195,11 +197,14 @@ fn sign_draft(
     requires draft { IsDraft draft }
     requires leaf { signer.old.used < 2 ^ signer.old.pair.lms.h }
     requires room { length draft.op.sig ≡ 8 + signer.old.pair.ots.sig_len + 32 * signer.old.pair.lms.h }
-    ensures sent { IfOk result (λ sent. sent ≡ sent_of draft.have (with_sig draft.op (signature_at signer.old.private signer.old.id signer.old.pair signer.old.used message.now))) }
-    ensures spelled { OnOk result (IsSendable draft.have (Some (with_sig draft.op (signature_at signer.old.private signer.old.id signer.old.pair signer.old.used message.now)))) }
+    ensures sent { IfOk result (λ sent. sent ≡ sent_of draft.have (with_sig draft.op
+        (signature_at signer.old.private signer.old.id signer.old.pair signer.old.used message.now))) }
+    ensures spelled { OnOk result (IsSendable draft.have (Some (with_sig draft.op
+        (signature_at signer.old.private signer.old.id signer.old.pair signer.old.used message.now)))) }
     ensures valid { OnOk result (IsValidNext signer.old message.now) }
     ensures signer { OnOk result (signer.new ≡ once_more signer.old) }
-    ensures book { OnOk result (book.new ≡ with_signed book.old (with_sig draft.op (signature_at signer.old.private signer.old.id signer.old.pair signer.old.used message.now))) }
+    ensures book { OnOk result (book.new ≡ with_signed book.old (with_sig draft.op
+        (signature_at signer.old.private signer.old.id signer.old.pair signer.old.used message.now))) }
     ensures same_signer { OnErr result (signer.new ≡ signer.old) }
     ensures same_book { OnErr result (book.new ≡ book.old) }
 {
@@ -259,12 +264,16 @@ pub(crate) fn append(
     requires side { IsSide (side_view side.old) }
     requires number { side.old.next ≤ SEQ_MAX }
     requires kind { IsKind kind }
-    ensures sent { IfOk result (λ sent. sent ≡ sent_of side.old.known.size (signed_by signer.old (unsigned book.old.user (side_view side.old) kind))) }
-    ensures spelled { OnOk result (IsSendable side.old.known.size (Some (signed_by signer.old (unsigned book.old.user (side_view side.old) kind)))) }
-    ensures valid { OnOk result (IsValidNext signer.old (op_signed (unsigned book.old.user (side_view side.old) kind))) }
+    ensures sent { IfOk result (λ sent. sent ≡ sent_of side.old.known.size (signed_by signer.old
+        (unsigned book.old.user (side_view side.old) kind))) }
+    ensures spelled { OnOk result (IsSendable side.old.known.size (Some (signed_by signer.old
+        (unsigned book.old.user (side_view side.old) kind)))) }
+    ensures valid { OnOk result (IsValidNext signer.old (op_signed (unsigned book.old.user
+        (side_view side.old) kind))) }
     ensures signer { OnOk result (signer.new ≡ once_more signer.old) }
     ensures side { OnOk result (side_view side.new ≡ record (side_view side.old) { next = side.old.next + 1 }) }
-    ensures book { OnOk result (book.new ≡ with_signed book.old (signed_by signer.old (unsigned book.old.user (side_view side.old) kind))) }
+    ensures book { OnOk result (book.new ≡ with_signed book.old (signed_by signer.old (unsigned book.old.user
+        (side_view side.old) kind))) }
     ensures same_signer { OnErr result (signer.new ≡ signer.old) }
     ensures same_side { OnErr result (side_view side.new ≡ side_view side.old) }
     ensures same_book { OnErr result (book.new ≡ book.old) }

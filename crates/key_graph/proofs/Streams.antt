@@ -24,7 +24,8 @@ use Rattle.key_graph.proofs.Runs.{place_fits, place_within, planned_place}
 not-both : {P : Type 0} {b : Bool} → b ≡ true → b ≡ false → P
 not-both is isnt = absurd (let f = sym is ∙ isnt in cc)
 
-none_step : (test : ℕ → Bool) (n : ℕ) (o : Option ℕ) → least_below test n ≡ o → (b : Bool) → test n ≡ b → least_below test (suc n) ≡ None
+none_step : (test : ℕ → Bool) (n : ℕ) (o : Option ℕ) → least_below test n ≡ o → (b : Bool) → test n ≡ b
+    → least_below test (suc n) ≡ None
     → (o ≡ None) × (b ≡ false)
 none_step test n (Some j) h b t e = let f : Some j ≡ None = rw h at e in absurd cc
 none_step test n None h true t e = let f : Some n ≡ None = rw (h, t) at e in absurd cc
@@ -44,7 +45,8 @@ is-none : (o : Option ℕ) → is_none o ≡ true → o ≡ None
 is-none None e = refl
 is-none (Some x) e = absurd cc
 
-clash : (t : ℕ) (cs : List Change) (what : KeyChange) (slot u s : ℕ) → fits t cs slot what ≡ true → is_held (Some u) (holder_after what) ≡ true
+clash : (t : ℕ) (cs : List Change) (what : KeyChange) (slot u s : ℕ) → fits t cs slot what ≡ true
+    → is_held (Some u) (holder_after what) ≡ true
     → HasSlot t cs u s → ⊥
 clash t cs (Admit v key) slot u s fit held has =
     let same = eqb-true v u held in
@@ -52,16 +54,19 @@ clash t cs (Admit v key) slot u s fit held has =
     none_passes (λ i. is_held (Some u) (holder cs i)) (2 ^ t) s none has.within has.held
 clash t cs (Remove v) slot u s fit held has = absurd cc
 
-held-so : (c : Change) (cs : List Change) (u s : ℕ) (b : Bool) → nat_eq c.slot s ≡ b → is_held (Some u) (holder (c ∷ cs) s) ≡ true
+held-so : (c : Change) (cs : List Change) (u s : ℕ) (b : Bool) → nat_eq c.slot s ≡ b
+    → is_held (Some u) (holder (c ∷ cs) s) ≡ true
     → is_held (Some u) (if b then holder_after c.what else holder cs s) ≡ true
-held-so c cs u s b e h = subst (λ (x : Bool). is_held (Some u) (if x then holder_after c.what else holder cs s) ≡ true) e h
+held-so c cs u s b e h = subst (λ (x : Bool). is_held (Some u) (if x then holder_after c.what else holder cs s)
+    ≡ true) e h
 
 -- Where each change fitted, no user has two slots.
 pub one_slot : (t : ℕ) (cs : List Change) (u s r : ℕ) → AreFit t cs → HasSlot t cs u s → HasSlot t cs u r → s ≡ r
 one_slot t [] u s r fit a b = let f = a.held in absurd cc
 one_slot t (c ∷ cs) u s r fit a b = by (nat_eq c.slot s) refl (nat_eq c.slot r) refl (one_slot t cs u s r fit.1)
   where
-    by : (x : Bool) → nat_eq c.slot s ≡ x → (y : Bool) → nat_eq c.slot r ≡ y → (HasSlot t cs u s → HasSlot t cs u r → s ≡ r) → s ≡ r
+    by : (x : Bool) → nat_eq c.slot s ≡ x → (y : Bool) → nat_eq c.slot r ≡ y → (HasSlot t cs u s
+        → HasSlot t cs u r → s ≡ r) → s ≡ r
     by true e true f rest = sym (eqb-true c.slot s e) ∙ eqb-true c.slot r f
     by true e false f rest = absurd (clash t cs c.what c.slot u r fit.0 (held-so c cs u s true e a.held)
         (record { within = b.within; held = held-so c cs u r false f b.held }))
@@ -114,7 +119,8 @@ kids-apart (suc k) n big = (first, (second, kids-apart k (n / 2) (half k n big).
 -- ---- where a wrap stands
 
 module _ (f : ℕ → Option Wrap) (of : (y : ℕ) (w : Wrap) → f y ≡ Some w → w.child ≡ y) where
-  in-front : (x : ℕ) (xs : List ℕ) (o : Option Wrap) (i : ℕ) (w : Wrap) → f x ≡ o → (i : ℕ) → slice_get (cons_option o (filter_map f xs)) i ≡ Some w
+  in-front : (x : ℕ) (xs : List ℕ) (o : Option Wrap) (i : ℕ) (w : Wrap) → f x ≡ o → (i : ℕ)
+      → slice_get (cons_option o (filter_map f xs)) i ≡ Some w
       → ((j : ℕ) → slice_get (filter_map f xs) j ≡ Some w → Among w.child xs) → Among w.child (x ∷ xs)
   in-front x xs None _ w e i at rest = inr (rest i at)
   in-front x xs (Some v) _ w e zero at rest =
@@ -126,7 +132,8 @@ module _ (f : ℕ → Option Wrap) (of : (y : ℕ) (w : Wrap) → f y ≡ Some w
   child-among (x ∷ xs) i w at = in-front x xs (f x) i w refl i at (λ j. child-among xs j w)
 
   one-of : (x : ℕ) (xs : List ℕ) (o : Option Wrap) (i j : ℕ) (w v : Wrap) → f x ≡ o → (Among x xs → ⊥)
-      → slice_get (cons_option o (filter_map f xs)) i ≡ Some w → slice_get (cons_option o (filter_map f xs)) j ≡ Some v → w.child ≡ v.child
+      → slice_get (cons_option o (filter_map f xs)) i ≡ Some w → slice_get (cons_option o (filter_map f xs)) j
+      ≡ Some v → w.child ≡ v.child
       → ((k l : ℕ) → slice_get (filter_map f xs) k ≡ Some w → slice_get (filter_map f xs) l ≡ Some v → k ≡ l) → i ≡ j
   one-of x xs None i j w v e apart a b same rest = rest i j a b
   one-of x xs (Some z) zero zero w v e apart a b same rest = refl
@@ -140,7 +147,8 @@ module _ (f : ℕ → Option Wrap) (of : (y : ℕ) (w : Wrap) → f y ≡ Some w
       absurd (apart (subst (λ (n : ℕ). Among n xs) at (child-among xs i w a)))
   one-of x xs (Some z) (suc i) (suc j) w v e apart a b same rest = ap suc (rest i j a b)
 
-  one-place : (xs : List ℕ) (i j : ℕ) (w v : Wrap) → AllApart xs → slice_get (filter_map f xs) i ≡ Some w → slice_get (filter_map f xs) j ≡ Some v
+  one-place : (xs : List ℕ) (i j : ℕ) (w v : Wrap) → AllApart xs → slice_get (filter_map f xs) i ≡ Some w
+      → slice_get (filter_map f xs) j ≡ Some v
       → w.child ≡ v.child → i ≡ j
   one-place [] i j w v apart a b same = absurd cc
   one-place (x ∷ xs) i j w v apart a b same =
@@ -172,14 +180,18 @@ module _ (setting : Setting) (p : Plan) where
   abbrev t : ℕ
   t = setting.depth
 
-  listed : (i : ℕ) (w : Wrap) → slice_get (wraps_of setting p) i ≡ Some w → Among w.child (kids t (slot_node t p.change.slot))
+  listed : (i : ℕ) (w : Wrap) → slice_get (wraps_of setting p) i ≡ Some w
+      → Among w.child (kids t (slot_node t p.change.slot))
   unfolding wraps_of
-  listed i w at = child-among (wrap_at setting (after p) p.change.generation) (of-child setting (after p) p.change.generation)
+  listed i w at = child-among (wrap_at setting (after p) p.change.generation) (of-child setting
+      (after p) p.change.generation)
       (kids t (slot_node t p.change.slot)) i w at
 
-  placed : (i j : ℕ) (w v : Wrap) → slice_get (wraps_of setting p) i ≡ Some w → slice_get (wraps_of setting p) j ≡ Some v → w.child ≡ v.child → i ≡ j
+  placed : (i j : ℕ) (w v : Wrap) → slice_get (wraps_of setting p) i ≡ Some w → slice_get (wraps_of setting p) j
+      ≡ Some v → w.child ≡ v.child → i ≡ j
   unfolding wraps_of
-  placed i j w v a b same = one-place (wrap_at setting (after p) p.change.generation) (of-child setting (after p) p.change.generation)
+  placed i j w v a b same = one-place (wrap_at setting (after p) p.change.generation) (of-child setting
+      (after p) p.change.generation)
       (kids t (slot_node t p.change.slot)) i j w v (kids-apart t (slot_node t p.change.slot) (omega arith)) a b same
 
   pub child_above_root : (i : ℕ) (w : Wrap) → slice_get (wraps_of setting p) i ≡ Some w → 2 ≤ w.child
@@ -197,13 +209,16 @@ module _ (setting : Setting) (p : Plan) where
 
   -- the key of an inner node, or of who has a slot
   named-so : (w : Wrap) (k : KeyName) → named setting p w ≡ Some k
-      → ((w.child < 2 ^ t) × (k ≡ inner w.child w.child_gen)) ⊎ ((2 ^ t ≤ w.child) × (is_held (Some (user-of k)) (holds w.child) ≡ true) × (is-leaf k ≡ true))
+      → ((w.child < 2 ^ t) × (k ≡ inner w.child w.child_gen)) ⊎ ((2 ^ t ≤ w.child)
+      × (is_held (Some (user-of k)) (holds w.child) ≡ true) × (is-leaf k ≡ true))
   named-so w k e = elim (cases_lt w.child (2 ^ t)) [
     | inl less ↦
-        let f = sym (cond-true (nat_lt w.child (2 ^ t)) (Some (inner w.child w.child_gen)) (option_map (λ (m : Member). leaf m.user) (holds w.child)) (low w.child (2 ^ t) less)) ∙ e in
+        let f = sym (cond-true (nat_lt w.child (2 ^ t)) (Some (inner w.child w.child_gen)) (option_map (λ
+        (m : Member). leaf m.user) (holds w.child)) (low w.child (2 ^ t) less)) ∙ e in
         inl (less, let same : k ≡ inner w.child w.child_gen = cc in same)
     | inr more ↦
-        let f = sym (cond-false (nat_lt w.child (2 ^ t)) (Some (inner w.child w.child_gen)) (option_map (λ (m : Member). leaf m.user) (holds w.child)) (high w.child (2 ^ t) more)) ∙ e in
+        let f = sym (cond-false (nat_lt w.child (2 ^ t)) (Some (inner w.child w.child_gen)) (option_map (λ
+        (m : Member). leaf m.user) (holds w.child)) (high w.child (2 ^ t) more)) ∙ e in
         let held = leaf-named (holds w.child) k f in
         inr (more, held.0, held.1)
   ]
@@ -217,18 +232,22 @@ module _ (setting : Setting) (p : Plan) where
     | inr slot ↦ absurd (false≢true (sym (ap is-leaf root) ∙ slot.2))
   ]
 
-  in-tree : p.change.slot < 2 ^ t → (i : ℕ) (w : Wrap) → slice_get (wraps_of setting p) i ≡ Some w → w.child - 2 ^ t < 2 ^ t
+  in-tree : p.change.slot < 2 ^ t → (i : ℕ) (w : Wrap) → slice_get (wraps_of setting p) i ≡ Some w
+      → w.child - 2 ^ t < 2 ^ t
   in-tree small i w at = let m = most t (slot_node t p.change.slot) w.child (listed i w at) in
       let one : 1 ≤ 2 ^ t = one-le-pow t 2 (omega arith) in omega arith
 
-  same-child : AreFit t (after p) → p.change.slot < 2 ^ t → (i j : ℕ) (u : Use) → (a : WrapUses setting p i u) → (b : WrapUses setting p j u)
+  same-child : AreFit t (after p) → p.change.slot < 2 ^ t → (i j : ℕ) (u : Use) → (a : WrapUses setting p i u)
+      → (b : WrapUses setting p j u)
       → a.wrap.child ≡ b.wrap.child
   same-child fit small i j u a b = by (named-so a.wrap u.key a.key) (named-so b.wrap u.key b.key)
     where
       by : ((a.wrap.child < 2 ^ t) × (u.key ≡ inner a.wrap.child a.wrap.child_gen))
-          ⊎ ((2 ^ t ≤ a.wrap.child) × (is_held (Some (user-of u.key)) (holds a.wrap.child) ≡ true) × (is-leaf u.key ≡ true))
+          ⊎ ((2 ^ t ≤ a.wrap.child) × (is_held (Some (user-of u.key)) (holds a.wrap.child) ≡ true)
+          × (is-leaf u.key ≡ true))
           → ((b.wrap.child < 2 ^ t) × (u.key ≡ inner b.wrap.child b.wrap.child_gen))
-          ⊎ ((2 ^ t ≤ b.wrap.child) × (is_held (Some (user-of u.key)) (holds b.wrap.child) ≡ true) × (is-leaf u.key ≡ true))
+          ⊎ ((2 ^ t ≤ b.wrap.child) × (is_held (Some (user-of u.key)) (holds b.wrap.child) ≡ true)
+          × (is-leaf u.key ≡ true))
           → a.wrap.child ≡ b.wrap.child
       by (inl x) (inl y) = ap node-of (sym x.1 ∙ y.1)
       by (inl x) (inr y) = absurd (false≢true (sym (ap is-leaf x.1) ∙ y.2))
@@ -236,18 +255,22 @@ module _ (setting : Setting) (p : Plan) where
       by (inr x) (inr y) =
           let s : a.wrap.child - 2 ^ t ≡ b.wrap.child - 2 ^ t =
           one_slot t (after p) (user-of u.key) (a.wrap.child - 2 ^ t) (b.wrap.child - 2 ^ t) fit
-          (record { within = in-tree small i a.wrap a.there; held = x.1 }) (record { within = in-tree small j b.wrap b.there; held = y.1 }) in
+          (record { within = in-tree small i a.wrap a.there; held = x.1 })
+          (record { within = in-tree small j b.wrap b.there; held = y.1 }) in
           let m = x.0 in let n = y.0 in omega arith
 
   -- No two wraps use one stream of one key.
-  pub once : AreFit t (after p) → p.change.slot < 2 ^ t → (i j : ℕ) (u : Use) → WrapUses setting p i u → WrapUses setting p j u → i ≡ j
+  pub once : AreFit t (after p) → p.change.slot < 2 ^ t → (i j : ℕ) (u : Use) → WrapUses setting p i u
+      → WrapUses setting p j u → i ≡ j
   once fit small i j u a b = placed i j a.wrap b.wrap a.there b.there (same-child fit small i j u a b)
 
 -- Plans that use one stream are of one generation.
-pub one_generation : (setting : Setting) (p q : Plan) (i j : ℕ) (u : Use) → p.change.generation < 2 ^ 32 → q.change.generation < 2 ^ 32
+pub one_generation : (setting : Setting) (p q : Plan) (i j : ℕ) (u : Use) → p.change.generation < 2 ^ 32
+    → q.change.generation < 2 ^ 32
     → WrapUses setting p i u → WrapUses setting q j u → p.change.generation ≡ q.change.generation
 one_generation setting p q i j u small small' a b =
-    let same : wrap_stream (a.wrap.child / 2) p.change.generation ≡ wrap_stream (b.wrap.child / 2) q.change.generation = sym a.stream ∙ b.stream in
+    let same : wrap_stream (a.wrap.child / 2) p.change.generation
+    ≡ wrap_stream (b.wrap.child / 2) q.change.generation = sym a.stream ∙ b.stream in
     omega arith
 
 -- ---- plans of a tree
@@ -256,15 +279,24 @@ abbrev wraps-in : Result (ℕ × List Wrap) PlanRefusal → List Wrap
 wraps-in (Ok m) = m.1
 wraps-in (Err x) = []
 
-planned-wraps : (tree : Tree) (g : ℕ) (what : KeyChange) (slot : ℕ) (wraps : List Wrap) → place_of tree.setting.depth tree.followed what ≡ Ok slot
+planned-wraps : (tree : Tree) (g : ℕ) (what : KeyChange) (slot : ℕ) (wraps : List Wrap)
+    → place_of tree.setting.depth tree.followed what ≡ Ok slot
     → planned tree g what ≡ Ok (slot, wraps)
-    → wraps_of tree.setting (record { change = record { generation = g; slot = slot; what = what }; before = tree.followed }) ≡ wraps
+    → wraps_of tree.setting (record {
+      change = record { generation = g; slot = slot; what = what };
+      before =
+          tree.followed;
+    }) ≡ wraps
 unfolding planned wraps_of
 planned-wraps tree g what slot wraps place e = ap wraps-in (ap (with_wraps tree g what) (sym place) ∙ e)
 
-pub planned_is : (tree : Tree) (g : ℕ) (what : KeyChange) (slot : ℕ) (wraps : List Wrap) → AreFit tree.setting.depth tree.followed
+pub planned_is : (tree : Tree) (g : ℕ) (what : KeyChange) (slot : ℕ) (wraps : List Wrap)
+    → AreFit tree.setting.depth tree.followed
     → planned tree g what ≡ Ok (slot, wraps)
-    → IsPlan tree.setting g slot wraps (record { change = record { generation = g; slot = slot; what = what }; before = tree.followed })
+    → IsPlan tree.setting g slot wraps (record {
+      change = record { generation = g; slot = slot; what = what };
+      before = tree.followed;
+    })
 planned_is tree g what slot wraps fit e =
     let place = planned_place tree g what slot wraps e in
     record {
@@ -276,10 +308,12 @@ planned_is tree g what slot wraps fit e =
     }
 
 -- what follows a change keeps that each fitted
-pub followed_fit : (tree : Tree) (c : Change) → AreFit tree.setting.depth tree.followed → AreFit tree.setting.depth (followed_by tree c).1.followed
+pub followed_fit : (tree : Tree) (c : Change) → AreFit tree.setting.depth tree.followed
+    → AreFit tree.setting.depth (followed_by tree c).1.followed
 unfolding followed_by
 followed_fit tree c fit = by (fits tree.setting.depth tree.followed c.slot c.what) refl
   where
-    by : (b : Bool) → fits tree.setting.depth tree.followed c.slot c.what ≡ b → AreFit tree.setting.depth (if b then c ∷ tree.followed else tree.followed)
+    by : (b : Bool) → fits tree.setting.depth tree.followed c.slot c.what ≡ b
+        → AreFit tree.setting.depth (if b then c ∷ tree.followed else tree.followed)
     by true e = (e, fit)
     by false e = fit

@@ -1,5 +1,5 @@
-ghost use Rattle.std.specs.Prelude.{◌≡◌, ◌≢◌, ◌≤◌, true, Some, IfOk, IfErr, OnErr, length};
-ghost use Rattle.op_types.specs.declared.limits.TheConstants.{BODY_BYTES_MAX};
+ghost use Rattle.std.specs.Prelude.{◌≡◌, ◌≢◌, ◌≤◌, true, Some, IfOk, IfErr, OnErr, length, ◌<◌, ◌^◌};
+ghost use Rattle.op_types.specs.declared.limits.TheConstants.{BODY_BYTES_MAX, SEQ_MAX};
 ghost use Rattle.op_types.specs.Roles.{may_be_given};
 ghost use Rattle.op_types.specs.Spelling.{IsKind};
 ghost use Rattle.msg_form.specs.declared.decline.Decline.TheVariants as declines;
@@ -17,9 +17,19 @@ use crate::signing::append;
 use crate::wish::Wish;
 use fr_bytes::NoMemory;
 use fr_digest::Digester;
+use lms_tree::Signer;
 use msg_form::Decline;
 use op_types::Kind;
+use op_types::limits::SEQ_MAX;
 use std::alloc::Global;
+
+// Whether a number and a leaf are left for one more operation.
+fn has_room(side: &Side, signer: &Signer) -> bool
+    ensures room { result ≡ true → (side.now.next ≤ SEQ_MAX) × (signer.now.used < 2 ^ signer.now.pair.lms.h) }
+    ensures none { side.now.next ≤ SEQ_MAX → signer.now.used < 2 ^ signer.now.pair.lms.h → result ≡ true }
+{
+    side.next <= SEQ_MAX && signer.left() > 0
+}
 
 impl<D: Digester> Client<D> {
     // The side of a wall that the client has one for.
@@ -37,7 +47,8 @@ impl<D: Digester> Client<D> {
     fn append(&mut self, alloc: Global, wall: u32, kind: Kind) -> Result<Sent, Decline>
         requires ready { IsReady (client_view self.old) wall }
         requires kind { IsKind kind }
-        requires made { (s : SideView) → side_of wall (sides_view self.old.sides) ≡ Some s → IsMadeOn self.old.book.user s kind }
+        requires made { (s : SideView) → side_of wall (sides_view self.old.sides) ≡ Some s
+            → IsMadeOn self.old.book.user s kind }
         ensures appends { IfOk result (λ sent. Appends (client_view self.old) wall kind sent (client_view self.new)) }
         ensures spelled { IfOk result (λ sent. (s : SideView) → side_of wall (sides_view self.old.sides) ≡ Some s
             → IsSendable s.known.size sent.signed) }
@@ -49,6 +60,20 @@ impl<D: Digester> Client<D> {
         match append(alloc, &mut self.signer, side, &mut self.book, kind) {
             Ok(sent) => Ok(sent),
             Err(NoMemory) => Err(Decline::NoMemory),
+        }
+    }
+
+    /// Whether the client has a side for the wall, with a number for one more operation and a leaf to sign it with. Takes
+    /// no memory.
+    pub fn is_ready(&self, wall: u32) -> bool
+        ensures ready { result ≡ true → IsReady (client_view self.now) wall }
+        ensures none { IsReady (client_view self.now) wall → result ≡ true }
+        ensures side { result ≡ true → HasSide wall (sides_view self.now.sides) }
+    {
+        let place = place_of(&self.sides, wall);
+        match self.sides.get(place) {
+            Some(side) => has_room(side, &self.signer),
+            None => false,
         }
     }
 
@@ -75,10 +100,12 @@ impl<D: Digester> Client<D> {
     pub fn post_request(&mut self, alloc: Global, wall: u32, text: &[u8]) -> Result<Sent, Decline>
         requires ready { IsReady (client_view self.old) wall }
         requires text { length text.now ≤ BODY_BYTES_MAX }
-        ensures asks { IfOk result (λ sent. Asks (client_view self.old) wall (post text.now) sent (client_view self.new)) }
+        ensures asks { IfOk result (λ sent. Asks (client_view self.old) wall (post text.now) sent
+            (client_view self.new)) }
         ensures spelled { IfOk result (λ sent. (s : SideView) → side_of wall (sides_view self.old.sides) ≡ Some s
             → IsSendable s.known.size sent.signed) }
-        ensures declines { IfErr result (λ d. d ≢ declines.NoMemory → Declines (client_view self.old) wall (post text.now) d) }
+        ensures declines { IfErr result (λ d. d ≢ declines.NoMemory
+            → Declines (client_view self.old) wall (post text.now) d) }
         ensures unchanged { OnErr result (client_view self.new ≡ client_view self.old) }
     {
         let kind = self.side(wall).post(alloc, self.book.user, text)?;
@@ -101,10 +128,12 @@ impl<D: Digester> Client<D> {
     ) -> Result<Sent, Decline>
         requires ready { IsReady (client_view self.old) wall }
         requires role { may_be_given role ≡ true }
-        ensures asks { IfOk result (λ sent. Asks (client_view self.old) wall (admit user role) sent (client_view self.new)) }
+        ensures asks { IfOk result (λ sent. Asks (client_view self.old) wall (admit user role) sent
+            (client_view self.new)) }
         ensures spelled { IfOk result (λ sent. (s : SideView) → side_of wall (sides_view self.old.sides) ≡ Some s
             → IsSendable s.known.size sent.signed) }
-        ensures declines { IfErr result (λ d. d ≢ declines.NoMemory → Declines (client_view self.old) wall (admit user role) d) }
+        ensures declines { IfErr result (λ d. d ≢ declines.NoMemory
+            → Declines (client_view self.old) wall (admit user role) d) }
         ensures unchanged { OnErr result (client_view self.new ≡ client_view self.old) }
     {
         let kind = self.side(wall).change(Wish::Adds { user, role })?;
@@ -118,10 +147,12 @@ impl<D: Digester> Client<D> {
     /// each the client is as before.
     pub fn remove_request(&mut self, alloc: Global, wall: u32, user: u32) -> Result<Sent, Decline>
         requires { IsReady (client_view self.old) wall }
-        ensures asks { IfOk result (λ sent. Asks (client_view self.old) wall (remove user) sent (client_view self.new)) }
+        ensures asks { IfOk result (λ sent. Asks (client_view self.old) wall (remove user) sent
+            (client_view self.new)) }
         ensures spelled { IfOk result (λ sent. (s : SideView) → side_of wall (sides_view self.old.sides) ≡ Some s
             → IsSendable s.known.size sent.signed) }
-        ensures declines { IfErr result (λ d. d ≢ declines.NoMemory → Declines (client_view self.old) wall (remove user) d) }
+        ensures declines { IfErr result (λ d. d ≢ declines.NoMemory
+            → Declines (client_view self.old) wall (remove user) d) }
         ensures unchanged { OnErr result (client_view self.new ≡ client_view self.old) }
     {
         let kind = self.side(wall).change(Wish::Drops { user })?;

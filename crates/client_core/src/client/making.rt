@@ -43,7 +43,14 @@ impl<D: Digester> Client<D> {
         ensures { IfOk result (λ c. client_view c ≡ record {
           signer = signer;
           sides = map (opening_side user) sides.items;
-          book = record { user = user; key = public_of signer.private signer.id signer.pair; rogue = rogue; took = []; signed = [] };
+          book = record {
+            user = user;
+            key = public_of signer.private signer.id signer.pair;
+            rogue = rogue;
+            took =
+                [];
+            signed = [];
+          };
         }) }
     {
         let sides = opening_sides(alloc, user, sides)?;

@@ -22,7 +22,8 @@ impl<D: Digester> Client<D> {
     /// Takes no memory.
     pub fn needs_keys(&self, wall: u32) -> bool
         requires { HasSide wall (sides_view self.now.sides) }
-        ensures { (s : SideView) → side_of wall (sides_view self.now.sides) ≡ Some s → result ≡ nat_lt (held s.keys) s.known.epoch }
+        ensures { (s : SideView) → side_of wall (sides_view self.now.sides) ≡ Some s → result
+            ≡ nat_lt (held s.keys) s.known.epoch }
     {
         self.side(wall).needs_keys()
     }
@@ -48,8 +49,10 @@ impl<D: Digester> Client<D> {
     /// before.
     pub fn take_keys(&mut self, alloc: Global, wall: u32, bytes: &[u8]) -> Result<(), Verdict>
         requires { HasSide wall (sides_view self.old.sides) }
-        ensures learns { OnOk result (Relearns D.digest_of (client_view self.old) wall bytes.now (client_view self.new)) }
-        ensures rejects { IfErr result (λ v. v ≢ verdicts.NoMemory → RejectsKeys D.digest_of (client_view self.old) wall bytes.now v) }
+        ensures learns { OnOk result (Relearns D.digest_of (client_view self.old) wall bytes.now
+            (client_view self.new)) }
+        ensures rejects { IfErr result (λ v. v ≢ verdicts.NoMemory
+            → RejectsKeys D.digest_of (client_view self.old) wall bytes.now v) }
         ensures unchanged { OnErr result (client_view self.new ≡ client_view self.old) }
     {
         laws::slices_of_bytes(bytes);

@@ -73,7 +73,8 @@ fn take(
     requires { AllByRecursion IsLeaf taking.leaves }
     ensures news { IfOk result (λ news. news ≡ the_news.Took view.size taking.from taking.leaves) }
     ensures side { OnOk result (side_view side.new ≡ accepting_all (side_view side.old) view taking.leaves) }
-    ensures book { OnOk result (book.new ≡ with_took book.old (took_of book.old.user (side_view side.old) view taking.from taking.proof taking.leaves taking.dicts)) }
+    ensures book { OnOk result (book.new ≡ with_took book.old (took_of book.old.user
+        (side_view side.old) view taking.from taking.proof taking.leaves taking.dicts)) }
     ensures same_side { OnErr result (side_view side.new ≡ side_view side.old) }
     ensures same_book { OnErr result (book.new ≡ book.old) }
 {
@@ -125,7 +126,8 @@ impl<D: Digester> Client<D> {
     // Hears what a check made of a reply to what was sent to a wall, or leaves all as it is.
     fn hear(&mut self, alloc: Global, wall: u32, checked: Checked) -> Result<News, Verdict>
         requires side { HasSide wall (sides_view self.old.sides) }
-        requires sound { (s : SideView) → side_of wall (sides_view self.old.sides) ≡ Some s → IsSound D.digest_of s.known checked }
+        requires sound { (s : SideView) → side_of wall (sides_view self.old.sides) ≡ Some s
+            → IsSound D.digest_of s.known checked }
         ensures makes { IfOk result (λ news. Makes (client_view self.old) wall checked news (client_view self.new)) }
         ensures rejects { IfErr result (λ v. v ≡ verdicts.NoMemory) }
         ensures unchanged { OnErr result (client_view self.new ≡ client_view self.old) }
@@ -147,8 +149,10 @@ impl<D: Digester> Client<D> {
     /// `NoMemory`. After either the client is as before, as it is after a refusal.
     pub fn take_reply(&mut self, alloc: Global, sent: &Sent, bytes: &[u8]) -> Result<News, Verdict>
         requires { HasSide sent.now.wall (sides_view self.old.sides) }
-        ensures hears { IfOk result (λ news. Hears D.digest_of (client_view self.old) sent.now bytes.now news (client_view self.new)) }
-        ensures rejects { IfErr result (λ v. v ≢ verdicts.NoMemory → Rejects D.digest_of (client_view self.old) sent.now bytes.now v) }
+        ensures hears { IfOk result (λ news. Hears D.digest_of (client_view self.old) sent.now bytes.now news
+            (client_view self.new)) }
+        ensures rejects { IfErr result (λ v. v ≢ verdicts.NoMemory
+            → Rejects D.digest_of (client_view self.old) sent.now bytes.now v) }
         ensures unchanged { OnErr result (client_view self.new ≡ client_view self.old) }
     {
         laws::slices_of_bytes(bytes);

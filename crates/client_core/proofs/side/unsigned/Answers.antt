@@ -12,5 +12,6 @@ returns-clause-is_op c = record {
   epoch = c.ranges.epoch.fits;
   view = c.requires.view;
   kind = c.requires.kind;
-  sig = subst (IsLimited SIGNATURE_BYTES_MAX) (sym (c.of.ensures ∙ c.new.ensures.items)) (limited_none SIGNATURE_BYTES_MAX);
+  sig = subst (IsLimited SIGNATURE_BYTES_MAX) (sym (c.of.ensures
+      ∙ c.new.ensures.items)) (limited_none SIGNATURE_BYTES_MAX);
 }

@@ -10,4 +10,5 @@ returns-in-Ok-clause-length c = c.in-Ok.ensures.valid.long
 pub returns-in-Ok-clause-valid : goal.returns-in-Ok-clause-valid
 returns-in-Ok-clause-valid c =
     let signer = c.args.signer.now in
-    subst (λ (sig : List ℕ). Valid (public_of signer.private signer.id signer.pair) c.args.message.now sig) c.in-Ok.ensures.signature c.in-Ok.ensures.valid
+    subst (λ (sig : List ℕ). Valid (public_of signer.private signer.id signer.pair) c.args.message.now sig)
+    c.in-Ok.ensures.signature c.in-Ok.ensures.valid

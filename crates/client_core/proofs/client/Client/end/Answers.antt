@@ -5,4 +5,5 @@ use Rattle.client_core.proofs.client.Client.end.Goals as goal
 
 pub returns-clause-made : goal.returns-clause-made
 returns-clause-made g c honest wall s found =
-    (c.self.invariant.told honest wall s (subst (λ (x : Standing). side_of wall (sides_view x.sides) ≡ Some s) (sym c.self.view_is) found)).made
+    (c.self.invariant.told honest wall s (subst (λ (x : Standing). side_of wall (sides_view x.sides)
+    ≡ Some s) (sym c.self.view_is) found)).made

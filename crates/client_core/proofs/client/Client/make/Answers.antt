@@ -14,9 +14,23 @@ invariant_of-result g c =
     let d = g.D.Digester.digest_of in
     let signer = c.args.signer in
     let sides = c.in_ok-sides.ensures.sides in
-    let book : Key → UserBook = λ k. record { user = c.args.user; key = k; rogue = c.args.rogue; took = []; signed = [] } in
-    subst (λ (v : List SideView). Keeps d (record { signer = signer; sides = v; book = c.empty-book.result })) (sym sides)
-    (subst (λ (b : UserBook). Keeps d (record { signer = signer; sides = map (opening_side c.args.user) c.args.sides.items; book = b }))
+    let book : Key → UserBook = λ k. record {
+      user = c.args.user;
+      key = k;
+      rogue = c.args.rogue;
+      took = [];
+      signed
+          = [];
+    } in
+    subst (λ (v : List SideView). Keeps d (record { signer = signer; sides = v; book = c.empty-book.result }))
+    (sym sides)
+    (subst (λ (b : UserBook). Keeps d (record {
+      signer = signer;
+      sides = map
+          (opening_side c.args.user) c.args.sides.items;
+      book = b;
+    }))
     (sym (c.empty-book.ensures ∙ ap (λ (k : Key). book k) c.public.ensures))
-    (opening-keeps d signer c.args.user (public_of signer.private signer.id signer.pair) c.args.rogue c.args.sides.items c.requires refl
+    (opening-keeps d signer c.args.user (public_of signer.private signer.id signer.pair) c.args.rogue
+    c.args.sides.items c.requires refl
     (subst (AllByRecursion IsSide) sides c.in_ok-sides.ensures.are_sides)))

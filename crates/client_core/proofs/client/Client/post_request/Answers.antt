@@ -13,7 +13,10 @@ append-requires-clause-made g c s found =
     let now = c.args.self.now in
     let t = side_view c.side.result.now in
     let ready = c.requires.ready in
-    let number = subst (λ (x : SideView). x.next ≤ SEQ_MAX) (one-side c.args.wall (client_view now) ready.side t ready.found c.side.ensures.value) ready.number in
-    subst (λ (x : SideView). IsMadeOn now.book.user x c.in_ok-kind.kind) (one-side c.args.wall (client_view now) t s c.side.ensures.value found)
+    let number = subst (λ (x : SideView). x.next ≤ SEQ_MAX) (one-side c.args.wall
+    (client_view now) ready.side t ready.found c.side.ensures.value) ready.number in
+    subst (λ (x : SideView). IsMadeOn now.book.user x c.in_ok-kind.kind) (one-side c.args.wall
+    (client_view now) t s c.side.ensures.value found)
     (posted-made now.book.user t c.args.text.now c.in_ok-kind.kind number
-    (subst (λ (x : Standing). posted x.book.user t c.args.text.now ≡ Ok c.in_ok-kind.kind) c.self.view_is c.in_ok-kind.ensures.posted))
+    (subst (λ (x : Standing). posted x.book.user t c.args.text.now
+    ≡ Ok c.in_ok-kind.kind) c.self.view_is c.in_ok-kind.ensures.posted))

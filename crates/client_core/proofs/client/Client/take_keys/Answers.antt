@@ -6,4 +6,5 @@ use Rattle.client_core.proofs.client.Client.take_keys.Goals as goal
 
 pub relearn-requires-clause-changes : goal.relearn-requires-clause-changes
 relearn-requires-clause-changes g c = subst (AllByRecursion IsNumbered) (sym c.as_slice.ensures)
-    (keys-numbered g.D.Digester.digest_of c.side.result.now.known c.args.bytes.now c.in_ok-changes.changes c.slices_of_bytes.ensures c.in_ok-changes.ensures)
+    (keys-numbered g.D.Digester.digest_of c.side.result.now.known c.args.bytes.now c.in_ok-changes.changes
+    c.slices_of_bytes.ensures c.in_ok-changes.ensures)

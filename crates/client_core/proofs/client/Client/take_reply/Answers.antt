@@ -8,5 +8,6 @@ pub hear-requires-clause-sound : goal.hear-requires-clause-sound
 hear-requires-clause-sound g c s e =
     let same : side_view c.side.result.now ≡ s = let f = sym c.side.ensures.value ∙ e in cc in
     subst (λ (x : SideView). IsSound g.D.Digester.digest_of x.known c.in_ok-checked.checked) same
-    (sound g.D.Digester.digest_of c.side.result.now.known c.args.sent.now.asked c.args.bytes.now c.in_ok-checked.checked
+    (sound g.D.Digester.digest_of c.side.result.now.known c.args.sent.now.asked c.args.bytes.now
+    c.in_ok-checked.checked
     c.slices_of_bytes.ensures c.in_ok-checked.ensures)
