@@ -1,0 +1,9 @@
+pub mod Stretches
+pub mod Streams
+pub mod LaneLaws
+pub mod RunLaws
+pub mod Fronts
+pub mod Steps
+pub mod Clients
+pub mod Tasks
+pub mod Ready
