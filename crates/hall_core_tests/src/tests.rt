@@ -77,11 +77,16 @@ const OTHER: Draft = (2, 0, 1, Embeds::Nothing, b"\0\0\0\0\x01d");
 
 const SEEN: Draft = (1, 2, 1, Embeds::First(0), b"\0\0\0\0\x01e");
 
-fn put_embedded(out: &mut Vec<u8>, view: &View, flip: u8) -> Result<(), Fail> {
-    let mut root = view.root;
+/// The root with its first byte changed.
+fn flipped(root: [u8; 32], flip: u8) -> [u8; 32] {
+    let mut root = root;
     root[0] ^= flip;
+    root
+}
+
+fn put_embedded(out: &mut Vec<u8>, view: &View, flip: u8) -> Result<(), Fail> {
     put_u64(out, view.size)?;
-    put_bytes(out, &root)?;
+    put_bytes(out, &flipped(view.root, flip))?;
     put_u32(out, u32::try_from(view.sig.len())?)?;
     put_bytes(out, view.sig.as_slice())?;
     Ok(())
