@@ -50,7 +50,8 @@ fn changes_text<D: Digester>(
 }
 
 /// The bytes that an honest server replies with to who has accepted `size` positions of the wall and asks for the changes
-/// of its access list: a pruned tree of these positions that shows exactly the changes. Nothing is hashed.
+/// of its access list: a pruned tree of these positions that shows exactly the changes. Nothing is hashed that the
+/// history keeps.
 pub fn show_keys<D: Digester>(
     alloc: Global,
     snap: &Snapshot<D>,

@@ -99,7 +99,7 @@ fn news<D: Digester>(
 /// `f` false writers: its view, and where that covers more, what is new. All that follows is shown where `whole` is set,
 /// and else what follows the vouch point. Each position is shown with the part of the access list before it that its
 /// operation meets; where no state of the wall has more than 32 entries nothing is missing there. A list of more than
-/// 1,056 bytes is hidden. Nothing is hashed.
+/// 1,056 bytes is hidden. Nothing is hashed that the history or an access list keeps.
 pub fn show<D: Digester>(
     alloc: Global,
     snap: &Snapshot<D>,
