@@ -9,3 +9,4 @@ pub mod Walls
 pub mod KeysHeld
 pub mod Streams
 pub mod Notes
+pub mod Crossing

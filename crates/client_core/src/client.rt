@@ -2,6 +2,7 @@ ghost use Rattle.std.specs.Prelude.{◌≡◌, false, Some, ℕ};
 ghost use Rattle.world_book.specs.Kept.{KeptBook};
 ghost use Rattle.client_core.specs.Keeping.{AreMade, notes_of, users_of};
 ghost use Rattle.client_core.specs.Sides.{SideView, side_of, sides_view};
+ghost use Rattle.signed_ops.specs.Signed.{key_of};
 
 use crate::side::Side;
 use fr_digest::Digester;
@@ -55,10 +56,12 @@ impl<D: Digester> Client<D> {
         &self.book
     }
 
-    /// The user's book, when the client ends. It is kept with the notes and the users of the client's walls, and each
-    /// operation in it is made by the rules. Takes no memory.
+    /// The user's book, when the client ends. It is kept with the notes and the users of the client's walls, among whom the
+    /// user has the book's key, and each operation in it is made by the rules. Takes no memory.
     pub fn end(self) -> UserBook
         ensures value { result ≡ self.book }
+        ensures key { (wall : ℕ) (s : SideView) → side_of wall (sides_view self.sides) ≡ Some s
+            → key_of (users_of (sides_view self.sides)) result.user ≡ Some result.key }
         ensures kept { KeptBook D.digest_of (notes_of (sides_view self.sides)) (users_of
             (sides_view self.sides)) result }
         ensures made { result.rogue ≡ false → (wall : ℕ) (s : SideView) → side_of wall (sides_view self.sides)

@@ -5,3 +5,4 @@ pub mod Walls
 pub mod Playing
 pub mod CallLaws
 pub mod Honesty
+pub mod Crossing

@@ -9,3 +9,4 @@ pub mod Endings
 pub mod Requests
 pub mod KeyReplies
 pub mod Snapshots
+pub mod Crossing

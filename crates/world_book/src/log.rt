@@ -62,14 +62,16 @@ impl<T: Drop> Log<T> {
 
     /// Takes the last value away, if there is one.
     pub fn drop_last(&mut self)
-        ensures { (front : List T) (last : T) → self.old ≡ front ++ last ∷ [] → self.new ≡ front }
+        ensures last { (front : List T) (last : T) → self.old ≡ front ++ last ∷ [] → self.new ≡ front }
+        ensures empty { self.old ≡ [] → self.new ≡ [] }
     {
         self.items.pop();
     }
 
     /// Puts a value in the place of the last, if there is one. Takes no memory.
     pub fn replace_last(&mut self, value: T)
-        ensures { (front : List T) (last : T) → self.old ≡ front ++ last ∷ [] → self.new ≡ front ++ value ∷ [] }
+        ensures last { (front : List T) (last : T) → self.old ≡ front ++ last ∷ [] → self.new ≡ front ++ value ∷ [] }
+        ensures empty { self.old ≡ [] → self.new ≡ [] }
     {
         let count = self.items.len();
         if count > 0 {

@@ -11,6 +11,6 @@ set-last {A} xs front last v n e h =
     let at : n - 1 ≡ length front = let same = ap length e in omega arith in
     ap (λ (k : ℕ). set xs k v) at ∙ (ap (λ (ys : List A). set ys (length front) v) e ∙ set-end front last v)
 
-pub returns-then-count-gt0 : goal.returns-then-count-gt0
-returns-then-count-gt0 g c = λ front last e.
+pub returns-then-count-gt0-clause-last : goal.returns-then-count-gt0-clause-last
+returns-then-count-gt0-clause-last g c = λ front last e.
     set-last c.self.inside.items.items front last c.args.value c.len-count.result (c.self.view_is ∙ e) (omega arith)
