@@ -15,9 +15,12 @@ module _ (D : RattleType) (g : digester.Ghosts D.Denot) where
   Turned-send : IsSend (TurnedHall.the_row D g)
   Turned-send = recorded_send (TurnedHall.the_field D g).row _ _ (TurnedHall.the_type D g).to_one (struct_send (shape (TurnedHall.the_type D g)) (Hall-send D g, tt))
 
+  pub Seats-field : IsSend (Seats.the_field D g).row
+  Seats-field = struct_send (shape (Seats.the_type D g))
+      (search sendable, (search (Turned-send, places.the_field_send, std.crosses, sendable) depth 20, (std.Vec-send _ (Snapshot-send D g), tt)))
+
   pub Seats-send : IsSend (Seats.the_row D g)
-  Seats-send = recorded_send (Seats.the_field D g).row _ _ (Seats.the_type D g).to_one (struct_send (shape (Seats.the_type D g))
-      (search sendable, (search (Turned-send, places.the_field_send, std.crosses, sendable) depth 20, (std.Vec-send _ (Snapshot-send D g), tt))))
+  Seats-send = recorded_send (Seats.the_field D g).row _ _ (Seats.the_type D g).to_one Seats-field
 
   pub Server-sync : IsSync (Server.the_row D g)
   Server-sync = recorded_sync (Server.the_field D g).row _ _ (Server.the_type D g).to_one (struct_sync (shape (Server.the_type D g))
