@@ -71,6 +71,12 @@ run-then d a b c ps qs p q =
           (sym (ap outcomes_of all ∙ outcomes-append (all_dids d a.client hs) (all_dids d b.client ks)));
     }
 
+-- what was heard in both
+pub then-heards : (d : Digest) (a b c : RunView) (ps qs : List Task) (p : PhaseRun d a b ps) (q : PhaseRun d b c qs)
+    → (run-then d a b c ps qs p q).heards ≡ p.heards ++ q.heards
+unfolding run-then
+then-heards d a b c ps qs p q = refl
+
 -- ---- a lane
 
 abbrev if-own : Bool → (ℕ → Sight) → (ℕ → Sight) → ℕ → Sight
