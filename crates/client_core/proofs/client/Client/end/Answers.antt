@@ -1,4 +1,4 @@
-use Rattle.std.proofs.Common.{◌≡◌, ◌×◌, ℕ, List, Some, sym, subst}
+use Rattle.std.proofs.Common.{◌≡◌, ℕ, List, Some, sym, subst}
 use Rattle.lms_tree.specs.Valid.{Key}
 use Rattle.signed_ops.specs.Signed.{key_of}
 use Rattle.client_core.specs.Clients.{Standing}
