@@ -1,0 +1,11 @@
+pub mod Lists
+pub mod Asked
+pub mod Carrying
+pub mod Learning
+pub mod Telling
+pub mod Sending
+pub mod Sights
+pub mod Growing
+pub mod Stepping
+pub mod Crossing
+pub mod Looping

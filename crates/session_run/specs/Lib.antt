@@ -1,0 +1,4 @@
+pub mod Views
+pub mod News
+pub mod Parts
+pub mod Phases
