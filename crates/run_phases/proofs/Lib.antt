@@ -1,0 +1,16 @@
+pub mod Tallies
+pub mod Overlays
+pub mod LaneSteps
+pub mod Boarding
+pub mod Readying
+pub mod Staying
+pub mod Landing
+pub mod Gathering
+pub mod Phasing
+pub mod Finding
+pub mod Launching
+pub mod Departing
+pub mod Embarking
+pub mod Sailing
+pub mod Meeting
+pub mod Repeating
