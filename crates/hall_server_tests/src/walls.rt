@@ -1,6 +1,7 @@
 //! Walls of three users: the owner 1, who admits the writers 2 and 3.
 ghost use Rattle.hall_replies.specs.Kept.{IsOfHonest};
 ghost use Rattle.lms_params.specs.Parameters.{IsListed};
+ghost use Rattle.op_types.specs.Spelling.{IsOp};
 ghost use Rattle.std.specs.Prelude.{◌≡◌, [], IfOk};
 
 use fr_bytes::{NoMemory, Sequence, put_bytes, put_u32, put_u64};
@@ -9,7 +10,7 @@ use hall_core::laws::honesty;
 use hall_core::{Answer, Ask, Hall, Slip, Snapshot};
 use lms_params::{Pair, pair_of};
 use lms_tree::{PublicKey, Signer, UserKeys};
-use op_types::{View, read_op};
+use op_types::{Op, View, read_op};
 use signed_ops::{sign_op, view_copy};
 use std::alloc::Global;
 use std::test::Fail;
@@ -105,17 +106,29 @@ fn unsigned_bytes(alloc: Global, views: &[View], draft: Draft) -> Result<Vec<u8>
     Ok(bytes)
 }
 
+/// The operation, signed by its author. It embeds one of the views.
+pub fn signed(
+    alloc: Global,
+    signers: &mut Vec<Signer>,
+    views: &[View],
+    draft: Draft,
+) -> Result<Op, Fail>
+    ensures { IfOk result IsOp }
+{
+    let unsigned = read_op(alloc, &unsigned_bytes(alloc, views, draft)?)?;
+    let Some(signer) = signers.get_mut(usize::from(draft.0).saturating_sub(1)) else {
+        return Err("no such signer".into());
+    };
+    Ok(sign_op(alloc, signer, unsigned)?)
+}
+
 fn ask_of(
     alloc: Global,
     signers: &mut Vec<Signer>,
     views: &[View],
     draft: Draft,
 ) -> Result<Slip, Fail> {
-    let unsigned = read_op(alloc, &unsigned_bytes(alloc, views, draft)?)?;
-    let Some(signer) = signers.get_mut(usize::from(draft.0).saturating_sub(1)) else {
-        return Err("no such signer".into());
-    };
-    let op = sign_op(alloc, signer, unsigned)?;
+    let op = signed(alloc, signers, views, draft)?;
     match Slip::new(alloc, u32::from(draft.0), Ask::Append { op }) {
         Ok(slip) => Ok(slip),
         Err((refused, ask)) => {

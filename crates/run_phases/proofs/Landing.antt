@@ -26,7 +26,7 @@ use Rattle.run_phases.proofs.LaneSteps.{lanes-run}
 use Rattle.run_phases.proofs.Staying.{last-same}
 use Rattle.run_phases.proofs.Tallies.{tally-append, times-append}
 
-length-map : {A B : Type 0} (f : A → B) (xs : List A) → length (map f xs) ≡ length xs
+pub length-map : {A B : Type 0} (f : A → B) (xs : List A) → length (map f xs) ≡ length xs
 length-map f [] = refl
 length-map f (x ∷ xs) = ap suc (length-map f xs)
 

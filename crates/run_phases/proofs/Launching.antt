@@ -18,7 +18,7 @@ use Rattle.run_phases.specs.Tasks.{commands_in}
 use Rattle.run_phases.proofs.Boarding.{even-of, users-members}
 use Rattle.run_phases.proofs.Readying.{commands-own, lanes-found, lanes-ready}
 
-each-so : {A : Type 0} (P Q : A → Type 0) (xs : List A) → ((x : A) → P x → Q x) → AllByRecursion P xs → AllByRecursion Q xs
+pub each-so : {A : Type 0} (P Q : A → Type 0) (xs : List A) → ((x : A) → P x → Q x) → AllByRecursion P xs → AllByRecursion Q xs
 each-so P Q [] so all = tt
 each-so P Q (x ∷ xs) so all = (so x all.0, each-so P Q xs so all.1)
 

@@ -47,7 +47,7 @@ number-at phases items i number same lt is =
 
 -- ---- commands
 
-writes-append : (xs ys : List Command) → writes (xs ++ ys) ≡ writes xs + writes ys
+pub writes-append : (xs ys : List Command) → writes (xs ++ ys) ≡ writes xs + writes ys
 writes-append [] ys = omega arith
 writes-append (x ∷ xs) ys =
     let more = writes-append xs ys in
