@@ -1,0 +1,5 @@
+pub mod Numbers
+pub mod Keys
+pub mod Clients
+pub mod Begins
+pub mod Parties
