@@ -1,5 +1,6 @@
 -- What a run leaves of its users.
-use Rattle.std.proofs.Common.{◌≡◌, ◌∙◌, ℕ, ◌<◌, List, [], ◌∷◌, length, map, refl, sym, ap, subst, inl, inr, arith}
+use Rattle.std.proofs.Common.{◌≡◌, ◌∙◌, ℕ, ◌<◌, List, [], ◌∷◌, length, map, refl, sym, ap, subst, inl, inr, Result, Ok, Err, arith}
+use Rattle.std.specs.Prelude.{IfOk}
 use Rattle.std.specs.List.{All, AllByRecursion, AllZip}
 use Rattle.std.proofs.lemmas.List.Elements.{recursion_from_All}
 use Rattle.fr_digest.specs.Digest.{Digest}
@@ -36,6 +37,12 @@ use Rattle.run_script.proofs.Numbers.{listed-once}
 use Rattle.run_script.proofs.Opening.{at-opened, members-open, opened-as}
 use Rattle.run_script.proofs.Together.{clients-at, some-users, together-of}
 
+-- ---- outcomes of calls
+
+pub if-so : {A E : Type 0} (P Q : A → Type 0) (r : Result A E) → IfOk r P → ((x : A) → P x → Q x) → IfOk r Q
+if-so P Q (Ok x) p so = so x p
+if-so P Q (Err e) p so = tt
+
 -- ---- users
 
 -- as many seats as others of the same users
@@ -53,14 +60,14 @@ user-so P (n ∷ ns) user all (inl is) = subst P is all.0
 user-so P (n ∷ ns) user all (inr more) = user-so P ns user all.1 more
 
 -- what holds where there is a first one
-with-first : (P : Type 0) (ns : List ℕ) → 0 < length ns → ((u : ℕ) (us : List ℕ) → ns ≡ u ∷ us → P) → P
+pub with-first : (P : Type 0) (ns : List ℕ) → 0 < length ns → ((u : ℕ) (us : List ℕ) → ns ≡ u ∷ us → P) → P
 with-first P [] some so = absurd (omega (some, arith))
 with-first P (n ∷ ns) some so = so n ns refl
 
 module _ (s : Script) (is : IsScript s) {D W : Type 0} (d : Digest) (view : W → WireView) (start : Start D)
     (b : Begins d s start) (run now : Running D W) (clients : run.clients ≡ start.clients)
     (seats : run.seats ≡ start.seats) (sixteen : length run.wires.items ≡ 16) where
-  members-at : members_of run ≡ map (opened-as s is b.users b.walls b.all_users b.all_walls) b.users
+  pub members-at : members_of run ≡ map (opened-as s is b.users b.walls b.all_users b.all_walls) b.users
   members-at =
       members-open s is b.users b.walls b.all_users b.all_walls d view start.server run
       (ap (λ (cs : _). map client_view cs.items) clients ∙ b.clients)
@@ -69,10 +76,10 @@ module _ (s : Script) (is : IsScript s) {D W : Type 0} (d : Digest) (view : W �
       (subst (λ (ss : List (Seats D)). All (IsSeatsOf d start.server) ss) (ap (λ (ss : _). ss.items) (sym seats)) b.seats)
       b.walls_are sixteen
 
-  listed : AllByRecursion (IsListedUser s) b.users
+  pub listed : AllByRecursion (IsListedUser s) b.users
   listed = recursion_from_All (IsListedUser s) b.users b.all_users.each
 
-  seated-once : (user : ℕ) → IsListedUser s user → times user (map user_of run.seats.items) ≡ 1
+  pub seated-once : (user : ℕ) → IsListedUser s user → times user (map user_of run.seats.items) ≡ 1
   seated-once user there =
       ap (times user) (ap (λ (ss : _). map user_of ss.items) seats ∙ b.seated)
       ∙ listed-once (has_user s.users) b.users b.all_users user there
@@ -89,7 +96,7 @@ module _ (s : Script) (is : IsScript s) {D W : Type 0} (d : Digest) (view : W �
         (subst (λ (c : PlainClient). Same (member_at n (members_of run)).client c) (sym (ran.clients n))
         (last-same d (member_at n (members_of run)).client (stream n ran.heards)))
 
-    all-same : (ns : List ℕ) (cs : List Standing) → AllByRecursion (IsListedUser s) ns
+    pub all-same : (ns : List ℕ) (cs : List Standing) → AllByRecursion (IsListedUser s) ns
         → AllZip (λ (n : ℕ) (c : Standing). client_of c ≡ (member_at n (members_of now)).client) ns cs
         → AllZip (λ (n : ℕ) (c : Standing). Same (plain (opening_client s b.users b.walls n)) (client_of c)) ns cs
     all-same [] [] all zip = tt

@@ -5,3 +5,4 @@ pub mod Scripts
 pub mod Opening
 pub mod Together
 pub mod Ending
+pub mod Whole

@@ -67,7 +67,7 @@ module _ (s : Script) (is : IsScript s) (users walls : List ℕ) (all_users : Li
 
 -- ---- members by their places
 
-found-all : (whole front ms : List Member) → whole ≡ front ++ ms → ((u : ℕ) → times u (members_.users_of whole) ≤ 1)
+pub found-all : (whole front ms : List Member) → whole ≡ front ++ ms → ((u : ℕ) → times u (members_.users_of whole) ≤ 1)
     → AllByRecursion (λ (m : Member). member_at m.user whole ≡ m) ms
 found-all whole front [] is once = tt
 found-all whole front (m ∷ ms) is once =
@@ -99,16 +99,18 @@ module _ {D : Type 0} where
 module _ {D W : Type 0} (d : Digest) (server : Server D) (users : List ℕ) (now end : Running D W)
     (clients : List Standing) (seats : List (Seats D)) (are : AreMembers d server now.clients.items now.seats.items)
     (o : InOrder d server users now end clients seats) where
-  -- each client is the one that its user had in the run
-  pub clients-at : AllZip (λ (n : ℕ) (c : Standing). client_of c ≡ (member_at n (members_of now)).client) users clients
-  clients-at =
+  pub members-found : AllByRecursion (λ (m : Member). member_at m.user (members_of now) ≡ m) (members clients seats)
+  members-found =
       let whole = members_of end ++ members clients seats in
       let once = λ (u : ℕ). let le : times u (members_.users_of whole) ≤ 1 =
       subst (λ (n : ℕ). n ≤ 1) (o.moved.counted u) (once-before d server now are u) in le in
-      at-places (members_of now) clients seats users o.seated (even-of clients seats o.same)
-      (each-so (λ (m : Member). member_at m.user whole ≡ m) (λ (m : Member). member_at m.user (members_of now) ≡ m)
+      each-so (λ (m : Member). member_at m.user whole ≡ m) (λ (m : Member). member_at m.user (members_of now) ≡ m)
       (members clients seats) (λ m at. o.moved.same m.user ∙ at)
-      (found-all whole (members_of end) (members clients seats) refl once))
+      (found-all whole (members_of end) (members clients seats) refl once)
+
+  -- each client is the one that its user had in the run
+  pub clients-at : AllZip (λ (n : ℕ) (c : Standing). client_of c ≡ (member_at n (members_of now)).client) users clients
+  clients-at = at-places (members_of now) clients seats users o.seated (even-of clients seats o.same) members-found
 
 -- ---- what clients know
 
@@ -155,7 +157,7 @@ module _ (s : Script) (is : IsScript s) (users walls : List ℕ) (all_users : Li
         noted = λ wall note at. subst (λ (l : List WallNote). note_of l wall ≡ Some note) notes at;
       }
 
-  among-all : (ns : List ℕ) (cs : List Standing)
+  pub among-all : (ns : List ℕ) (cs : List Standing)
       → AllZip (λ (n : ℕ) (c : Standing). Same (plain (opening_client s users walls n)) (client_of c)) ns cs
       → AllByRecursion (IsAmong (notes_in s walls) (keys_in s users)) cs
   among-all [] [] all = tt

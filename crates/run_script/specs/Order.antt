@@ -10,7 +10,7 @@ use Rattle.hall_server.specs.Meetings.{AreClosedOn, HasNoStranger, IsKept}
 use Rattle.hall_server.specs.Seating.{HasUsers, IsSeatsOf}
 use Rattle.world_book.specs.declared.world.WallNote.{WallNote}
 use Rattle.world_book.specs.Kept.{Kept}
-use Rattle.run_end.specs.Ends.{TellsOf, book_in, wall_end}
+use Rattle.run_end.specs.Ends.{HasEnded, TellsOf, book_in, wall_end}
 use Rattle.run_script.specs.declared.closing.Ran.{Ran}
 use Rattle.hall_server.specs.Sights.{user_of}
 use Rattle.session_run.specs.Views.{client_of}
@@ -37,6 +37,7 @@ module _ {D W : Type 0} where
     pub wires : ran.wires ≡ run.wires
     pub halls_are : ran.halls.items ≡ halls
     pub world : ran.world ≡ record { users = map book_in clients; walls = notes }
+    pub ended : AllByRecursion (HasEnded d) clients
     pub kept : Kept d ran.world
     pub audited : TellsOf d ran.world ran.outcomes.audit
     pub ends : ran.outcomes.walls ≡ map (wall_end d) halls

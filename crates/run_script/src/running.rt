@@ -1,6 +1,7 @@
 //! A run from its beginning to its end.
 ghost use Rattle.script_read.specs.Limits.{IsScript};
-ghost use Rattle.std.specs.Prelude.{◌≡◌, length};
+ghost use Rattle.run_script.specs.Runs.{RunOf};
+ghost use Rattle.std.specs.Prelude.{◌≡◌, length, IfOk};
 
 use crate::closing::{Ran, close};
 use crate::ordering::users_of;
@@ -31,6 +32,7 @@ pub fn run_script<D: Digester + Send + Sync, W: Wire + Send, R: Threads + Wait +
 ) -> Result<Ran<D, W>, NoMemory>
     requires script { IsScript script.now }
     requires sixteen { length wires.items ≡ 16 }
+    ensures { IfOk result (RunOf D.digest_of W.view script.now wires.items) }
 {
     let Start {
         server,

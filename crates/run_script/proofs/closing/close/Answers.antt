@@ -1,14 +1,10 @@
-use Rattle.std.proofs.Common.{List, subst, sym, Result, Ok, Err}
-use Rattle.std.specs.Prelude.{IfOk}
+use Rattle.std.proofs.Common.{List, subst, sym}
 use Rattle.std.specs.List.{All}
 use Rattle.hall_core.specs.Standing as standing
 use Rattle.hall_server.specs.Meetings.{AreClosedOn, HasNoStranger, IsKept}
 use Rattle.run_script.specs.Order.{Closes, Comes}
+use Rattle.run_script.proofs.Ending.{if-so}
 use Rattle.run_script.proofs.closing.close.Goals as goal
-
-if-so : {A E : Type 0} (P Q : A → Type 0) (r : Result A E) → IfOk r P → ((x : A) → P x → Q x) → IfOk r Q
-if-so P Q (Ok x) p so = so x p
-if-so P Q (Err e) p so = tt
 
 pub ended-requires : goal.ended-requires
 ended-requires g c =
