@@ -1,6 +1,8 @@
 ghost use Rattle.std.specs.Prelude.{IfOk};
+ghost use Rattle.fr_digest.specs.Digest.{short_digest};
 ghost use Rattle.world_book.specs.Kept.{Kept};
 
+use crate::clashes::{Node, string_at};
 use crate::halls::Via::{First, Second};
 use crate::people::By;
 use crate::scene::{Left, Row, Scene};
@@ -258,5 +260,99 @@ fn an_operation_that_nobody_signed_is_told_wherever_it_stands(rt: HostRuntime) -
         assert!(rt; finds_forged::<Sha, _>(&rt, rt.alloc(), &parts, *user)?);
         assert!(rt; finds_forged::<Short, _>(&rt, rt.alloc(), &parts, *user)?);
     }
+    Ok(())
+}
+
+// ---- two histories of one root
+
+/// Their servers show users 2 and 3 another post at position 2, and both posts have leaves of one short digest. User
+/// 3's next post embeds the view of three leaves, and is shown to user 2.
+static FORKED: [Row; 4] = [
+    (USER_2, First, Posts(b"s"), Took(3, 2)),
+    (USER_3, Second, Posts(b"q"), Took(3, 2)),
+    (USER_3, Second, Posts(b"next"), Took(4, 3)),
+    (USER_2, Second, Looks, Took(4, 3)),
+];
+
+/// The first server has a post of user 2 that the second has not, so that user 3's post stands one position later.
+static DROPPED: [Row; 8] = [
+    (TWIN_OF_3, First, LooksAtAll, Took(2, 0)),
+    (USER_2, First, Posts(b"h"), Took(3, 2)),
+    (TWIN_OF_3, First, Posts(b"kept"), Took(4, 2)),
+    (USER_2, First, Looks, Took(4, 3)),
+    (USER_3, Second, Posts(b"kept"), Took(3, 2)),
+    (USER_3, Second, Posts(b"a"), Took(4, 3)),
+    (USER_3, Second, Posts(b"next"), Took(5, 4)),
+    (USER_2, Second, Looks, Took(5, 4)),
+];
+
+/// The servers have two posts in another order.
+static SWAPPED: [Row; 10] = [
+    (TWIN_OF_3, First, LooksAtAll, Took(2, 0)),
+    (TWIN_OF_2, Second, LooksAtAll, Took(2, 0)),
+    (USER_2, First, Posts(b"d"), Took(3, 2)),
+    (TWIN_OF_3, First, Posts(b"g"), Took(4, 2)),
+    (USER_2, First, Looks, Took(4, 3)),
+    (USER_3, Second, Posts(b"g"), Took(3, 2)),
+    (TWIN_OF_2, Second, Posts(b"d"), Took(4, 2)),
+    (USER_3, Second, Looks, Took(4, 3)),
+    (USER_3, Second, Posts(b"next"), Took(5, 4)),
+    (USER_2, Second, Looks, Took(5, 4)),
+];
+
+/// Whether an audit tells the strings at this node: first that of the tree that user 2's last record shows, which is
+/// of the history that user 3 was shown, and then that of the history that user 2 was shown before.
+fn tells_clash(alloc: Global, left: &Left, node: Node) -> Result<bool, Fail>
+    requires { Kept short_digest left.now.world }
+{
+    let [_, second, third, _] = left.world.users.as_slice() else {
+        return Err("other users".into());
+    };
+    let own = string_at(alloc, third, node)?;
+    let before = string_at(alloc, second, node)?;
+    match audit::<Short>(alloc, &left.world) {
+        Err(AuditEnd::Clash(clash)) => {
+            Ok(clash.a() == own.as_slice() && clash.b() == before.as_slice())
+        }
+        _ => Ok(false),
+    }
+}
+
+fn finds_clash<R: Wait + Abort>(
+    rt: &R,
+    alloc: Global,
+    rows: &[Row],
+    node: Node,
+) -> Result<bool, Fail> {
+    let left = left::<Short, R>(rt, alloc, 0, &[], &[&APART, rows])?;
+    tells_clash(alloc, &left, node)
+}
+
+// The texts of the posts were searched for, so that the roots agree.
+#[test]
+fn histories_of_one_root_are_told_by_two_strings(rt: HostRuntime) -> Result<(), Fail> {
+    let cases: [(&[Row], Node); 3] = [
+        (&FORKED, Node::Leaf(2)),
+        (&DROPPED, Node::TopOfFour),
+        (&SWAPPED, Node::TopOfFour),
+    ];
+    for (rows, node) in &cases {
+        assert!(rt; finds_clash(&rt, rt.alloc(), rows, *node)?);
+    }
+    Ok(())
+}
+
+/// Behind the forked leaf user 2's twin posts, and user 3 sees it.
+static FORGED_TOO: [Row; 3] = [
+    (TWIN_OF_2, Second, LooksAtAll, Took(4, 0)),
+    (TWIN_OF_2, Second, Posts(b"forged"), Took(5, 4)),
+    (USER_3, Second, Looks, Took(5, 4)),
+];
+
+// The roots agree there too, so that without the operation that nobody signed a collision would be told.
+#[test]
+fn a_forgery_is_told_before_a_collision(rt: HostRuntime) -> Result<(), Fail> {
+    let parts: [&[Row]; 3] = [&APART, &FORKED, &FORGED_TOO];
+    assert!(rt; finds_forged::<Short, _>(&rt, rt.alloc(), &parts, 2)?);
     Ok(())
 }
