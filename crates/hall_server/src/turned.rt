@@ -19,7 +19,15 @@ pub struct TurnedHall<D: Digester> {
 }
 
 impl<D: Digester> TurnedHall<D> {
-    pub(crate) fn into_hall(self) -> Hall<D>
+    /// The hall as a gate takes it.
+    pub fn new(hall: Hall<D>) -> TurnedHall<D>
+        ensures { result.hall ≡ hall }
+    {
+        TurnedHall { hall }
+    }
+
+    /// The hall, taken back.
+    pub fn into_hall(self) -> Hall<D>
         ensures { result ≡ self.hall }
     {
         let TurnedHall { hall } = self;
