@@ -1,0 +1,8 @@
+//! The words behind the program's name, and what they ask for.
+#![tactic(auto)]
+
+#[cfg(test)]
+mod tests;
+mod words;
+
+pub use words::{Wish, read_words};
