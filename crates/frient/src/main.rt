@@ -1,11 +1,10 @@
-//! The program `frient`: runs the script that standard input holds and writes the report to standard
-//! output.
+//! The program `frient`: runs the script that standard input holds, or the generated one of a number, and writes the
+//! report or the summary to standard output.
 #![tactic(auto)]
 
 ghost use Rattle.std.specs.Prelude.{◌≡◌, map, IfOk};
 ghost use Rattle.frient.specs.Status.{EndsWith, words_in};
 
-use fr_digest::{Digester, Sha};
 use fr_edges::{Sink, Source, StdSink, StdSource, straight_wires};
 use frient_run::run_frient;
 use std::alloc::{AllocError, Global};
@@ -18,6 +17,12 @@ use std::thread::Threads;
 /// How many wires a run has.
 const WIRES: usize = 16;
 
+/// The status where words or script are refused.
+const REFUSED: u8 = 2;
+
+/// The status where a read or a write failed.
+const FAILED: u8 = 3;
+
 /// The status where memory is wanting.
 const NO_MEMORY: u8 = 6;
 
@@ -29,12 +34,35 @@ fn main(rt: HostRuntime) -> ExitCode {
         // Arguments that can't be had as text count as no words.
         Err(_) => Ok(Vec::new(alloc)),
     };
-    let Ok(arguments) = arguments else {
-        return ExitCode::from(NO_MEMORY);
+    let status = match arguments {
+        Ok(arguments) => {
+            let mut source = StdSource::new(rt.stdin());
+            let mut sink = StdSink::new(rt.stdout());
+            status(&rt, alloc, &arguments, &mut source, &mut sink)
+        }
+        Err(AllocError) => NO_MEMORY,
     };
-    let mut source = StdSource::new(rt.stdin());
-    let mut sink = StdSink::new(rt.stdout());
-    ExitCode::from(status(&rt, alloc, &arguments, &mut source, &mut sink))
+    if let Some(advice) = advice(status) {
+        // Where standard error fails too, the status alone tells.
+        let _ = rt.eprintln(advice);
+    }
+    ExitCode::from(status)
+}
+
+// What was the matter and what to do, where nothing was run or not all was written.
+fn advice(status: u8) -> Option<&'static str> {
+    match status {
+        REFUSED => Some(
+            "frient: refused, and nothing was run: the line on standard output says why; \
+             `frient run` reads a script, `frient run --number N` makes one",
+        ),
+        FAILED => Some(
+            "frient: a read of standard input or a write to standard output failed: \
+             see where they lead, and run it again",
+        ),
+        NO_MEMORY => Some("frient: memory was wanting: give it more, or a smaller script"),
+        _ => None,
+    }
 }
 
 // The status of a run over straight wires; the first argument is the program's name.
@@ -45,7 +73,7 @@ fn status<R: Threads + Wait + Sync, S: Source, K: Sink>(
     source: &mut S,
     sink: &mut K,
 ) -> u8
-    ensures { EndsWith ⟦<Sha as Digester>⟧.digest_of (words_in arguments.now) (S.view source.old) (S.view source.new) (K.view sink.old) (K.view sink.new) result }
+    ensures { EndsWith (words_in arguments.now) (S.view source.old) (S.view source.new) (K.view sink.old) (K.view sink.new) result }
 {
     let (Ok(words), Ok(mut wires)) = (words_in(alloc, arguments), straight_wires(alloc, WIRES))
     else {

@@ -1,12 +1,1 @@
-pub mod AccountLaws
-pub mod AuditLemmas
-pub mod Beginnings
-pub mod Commands
-pub mod Edges
-pub mod Order
-pub mod Promises
-pub mod Running
-pub mod Runs
-pub mod Searches
-pub mod StraightWires
-pub mod Wires
+pub mod Landing

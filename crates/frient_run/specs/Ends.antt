@@ -1,206 +1,139 @@
--- How a call ends: what was read, what came of it, and what was said.
-use Rattle.std.specs.Prelude.{◌≡◌, ℕ, ◌+◌, ◌<◌, ◌≤◌, ◌⊎◌, List, [], ◌∷◌, codes, length, take, map, replicate, Some, IfSome, true, false, ◌==◌, if◌then◌else◌, slice_get, slice_set}
-use Rattle.std.specs.List.{flat_map, AllByRecursion}
-use Rattle.fr_edges.specs.Faults.{Rose}
-use Rattle.fr_edges.specs.Source.{SourceView, with_front}
-use Rattle.fr_edges.specs.Sink.{SinkView, with_more}
+-- How a call of the program ends: what came of its words, its source and its wires, what was said of it, and what was
+-- handed out.
+use Rattle.std.specs.Prelude.{◌≡◌, ℕ, ◌≤◌, List, [], length, map}
+use Rattle.fr_edges.specs.Source.{SourceView}
+use Rattle.fr_edges.specs.Sink.{SinkView}
 use Rattle.fr_edges.specs.Wire.{WireView}
-use Rattle.tree_model.specs.History.{root_of_all}
-use Rattle.op_types.specs.declared.op.Op.{Op}
-use Rattle.op_types.specs.declared.op.Leaf.{Leaf}
-use Rattle.wall_law.specs.Lawful.{Lawful}
-use Rattle.thin_form.specs.declared.thin_script.Line.{Line}
-use Rattle.thin_form.specs.ThinScript.{IsThinScript, IsNoThinScript}
-use Rattle.thin_form.specs.declared.outcome.Outcome.{Outcome}
-use Rattle.thin_form.specs.declared.outcome.WallEnd.{WallEnd}
-use Rattle.thin_form.specs.declared.outcome.AuditLine.{AuditLine}
-use Rattle.thin_form.specs.declared.outcome.AuditLine.TheVariants as audits
-use Rattle.thin_form.specs.Report.{report_text}
-use Rattle.thin_client.specs.declared.side.Took.{Took}
-use Rattle.thin_client.specs.Asking.{ClientView}
-use Rattle.thin_client.specs.Judging.{texts_of}
-use Rattle.thin_client.specs.Records.{acceptance_of}
-use Rattle.frient_run.specs.declared.record.ThinTook.{ThinTook}
-use Rattle.frient_run.specs.declared.fate.Refusal.{Refusal}
-use Rattle.frient_run.specs.declared.fate.Refusal.TheVariants as refusals
-use Rattle.frient_run.specs.declared.fate.Told.{Told}
+use Rattle.hall_core.specs.Standing as standing
+use Rattle.script_read.specs.declared.script.DigestName.{DigestName}
+use Rattle.script_read.specs.declared.script.DigestName.TheVariants as names
+use Rattle.script_read.specs.declared.script.Script.{Script}
+use Rattle.script_read.specs.Limits.{IsScript}
+use Rattle.script_form.specs.declared.outcome.AuditLine.TheVariants as lines
+use Rattle.script_form.specs.declared.outcome.Outcomes.{Outcomes}
+use Rattle.script_form.specs.Report.{report_of}
+use Rattle.script_form.specs.Summary.{summary_of}
+use Rattle.script_form.specs.Status.{status_of}
+use Rattle.world_book.specs.declared.world.World.{World}
+use Rattle.frient_edges.specs.Output.{Spoke}
+use Rattle.frient_script.specs.declared.choice.Chosen.{Chosen}
+use Rattle.frient_script.specs.declared.choice.Form.{Form}
+use Rattle.frient_script.specs.declared.choice.Form.TheVariants as forms
+use Rattle.frient_script.specs.Choice.{IsGiven, IsUnread, Refuses}
+use Rattle.frient_run.specs.declared.ended.Ended.{Ended}
+use Rattle.frient_run.specs.declared.ended.Halls.{Halls}
+use Rattle.frient_run.specs.declared.ended.Halls.TheVariants as halls
 use Rattle.frient_run.specs.declared.fate.Fate.{Fate}
 use Rattle.frient_run.specs.declared.fate.Fate.TheVariants as fates
-use Rattle.frient_run.specs.Fixture.{fixture, start}
-use Rattle.frient_run.specs.Lane.{RunState, RunSoFar, placed, all_dids}
-use Rattle.frient_run.specs.Audit.{audit_of}
-use Rattle.frient_run.specs.Auditing.{Says}
-use Rattle.frient_run.specs.Accounts.{LostExactly, acceptances, outcomes_by}
-use Rattle.frient_run.specs.Untampered.{any_failed}
+use Rattle.frient_run.specs.declared.fate.Told.{Told}
+use Rattle.frient_run.specs.declared.running.Run.{Run}
+use Rattle.frient_run.specs.Whole.{Whole, digest_by}
 
--- ---- words and source
+-- ---- halls
 
--- the words are exactly `run`
-abbrev pub IsRun : List (List ℕ) → Type 0
-IsRun words = words ≡ codes "run" ∷ []
-
--- the most bytes that a script may have
-abbrev pub most_script : ℕ
-most_script = 4194304
-
--- These bytes were read, and no read failed: all that the source held, or more than a script may have.
-pub record Fed (before now : SourceView) (bytes : List ℕ) : Type 0 where
-  pub moved : before.left ≡ with_front bytes now.left
-  pub complete : IfSome now.left (λ rest. rest ≡ []) ⊎ (most_script < length bytes)
-  pub bound : length bytes ≤ most_script + 1
-  pub calm : now.faults ≡ before.faults
-
--- ---- statuses
-
--- 5 where the audit found a forgery, 4 where it found a collision, else 1 where a command was rejected or
--- lost, else 0
-abbrev pub status_of : List Outcome → AuditLine → ℕ
-status_of outcomes (audits.Forged user op) = 5
-status_of outcomes (audits.Collision a b) = 4
-status_of outcomes (audits.Sound records grounded) = if any_failed outcomes then 1 else 0
-
--- ---- what is handed out
-
--- a user's records
-abbrev pub thin_took : ℕ → Took → ThinTook
-thin_took user t = record { user = user; have = t.have; leaves = t.leaves }
-
-abbrev pub thin_records : List ClientView → List ThinTook
-thin_records clients = flat_map (λ (c : ClientView). map (thin_took c.user) c.took) clients
-
--- and the operations that a user signed
-abbrev pub by_user : ℕ → Op → ℕ × Op
-by_user user op = (user, op)
-
-abbrev pub thin_signed : List ClientView → List (ℕ × Op)
-thin_signed clients = flat_map (λ (c : ClientView). map (by_user c.user) c.signed) clients
-
--- ---- what each client may rely on
-
--- each of a client's records is a lawful history of the wall
-abbrev pub AreLawful : (List ℕ → List ℕ) → ClientView → Type 0
-AreLawful d c = AllByRecursion (λ (t : Took). Lawful d 1 1 t.leaves) c.took
-
--- Where the audit found neither forgery nor collision, each record of each client is lawful.
-abbrev pub UpholdsLaw : (List ℕ → List ℕ) → List ClientView → AuditLine → Type 0
-UpholdsLaw d clients (audits.Sound records grounded) = AllByRecursion (AreLawful d) clients
-UpholdsLaw d clients (audits.Collision a b) = Unit {0}
-UpholdsLaw d clients (audits.Forged user op) = Unit {0}
-
--- a client's records are what its accepted commands told, in order
-abbrev pub IsAccepted : List Outcome → ClientView → Type 0
-IsAccepted outcomes c = acceptances (outcomes_by c.user outcomes) ≡ map acceptance_of c.took
-
--- ---- a whole run
-
--- the server's list at the end, with a root of zero bytes where it is empty
-abbrev pub wall_end : (List ℕ → List ℕ) → List Leaf → WallEnd
-wall_end d leaves = record { size = length leaves; root = if length leaves == 0 then replicate 32 0 else root_of_all d (texts_of leaves) }
-
--- A run of these lines over the wire, and what its clients, its server and its audit say of it. The
--- outcomes, the calls on the wall, what was carried and what was delivered stand in `run`.
-pub record Promise (d : List ℕ → List ℕ) (lines : List Line) (wire wire' : WireView) (told : Told) : Type 0 where
-  pub now : RunState
-  pub run : RunSoFar d fixture start wire now (placed lines)
-  pub wired : now.wire ≡ wire'
-  pub recorded : told.records ≡ thin_records now.clients
-  pub wrote : told.signed ≡ thin_signed now.clients
-  pub accepted : AllByRecursion (IsAccepted now.outcomes) now.clients
-  pub lost : AllByRecursion LostExactly (all_dids d fixture start run.heards)
-  pub untampered : wire.straight ≡ true → any_failed now.outcomes ≡ false
-  pub audited : Says d fixture now.clients (audit_of d now.clients)
-  pub lawful : UpholdsLaw d now.clients (audit_of d now.clients)
-  pub status : told.status ≡ status_of now.outcomes (audit_of d now.clients)
-  pub text : told.text ≡ report_text now.outcomes (wall_end d now.leaves) (audit_of d now.clients) told.status
-
--- what clients and wall came to, audited and told
-pub record Tells (d : List ℕ → List ℕ) (clients : List ClientView) (outcomes : List Outcome) (leaves : List Leaf) (told : Told) : Type 0 where
-  pub recorded : told.records ≡ thin_records clients
-  pub wrote : told.signed ≡ thin_signed clients
-  pub status : told.status ≡ status_of outcomes (audit_of d clients)
-  pub text : told.text ≡ report_text outcomes (wall_end d leaves) (audit_of d clients) told.status
-
--- a run over the first of the wires, which changes no other
-pub record RunsOver {W : Type 0} (d : List ℕ → List ℕ) (lines : List Line) (view : W → WireView) (wires wires' : List W) (told : Told) : Type 0 where
-  pub wire : W
-  pub wire' : W
-  pub first : slice_get wires 0 ≡ Some wire
-  pub others : wires' ≡ slice_set wires 0 wire'
-  pub promise : Promise d lines (view wire) (view wire') told
+-- The halls are under this digest, and these are they.
+abbrev pub AreHalls : DigestName → Halls → List standing.Hall → Type 0
+AreHalls names.Sha (halls.Sha all) list = all.items ≡ list
+AreHalls names.Sha (halls.Short all) list = ⊥
+AreHalls names.Short (halls.Sha all) list = ⊥
+AreHalls names.Short (halls.Short all) list = all.items ≡ list
 
 -- ---- what came of a call
 
--- the one line of a refusal
-unfoldable pub refusal_text : Refusal → List ℕ
-refusal_text refusals.Words = codes "refused words\n"
-refusal_text refusals.Script = codes "refused script NotThin\n"
+-- what tells the run of a script in a form
+abbrev pub text_by : Form → Script → Outcomes → List ℕ
+text_by forms.Report script outcomes = report_of script outcomes
+text_by forms.Summary script outcomes = summary_of outcomes
 
--- Words and script were taken, and the script was run over the first wire. The other wires are as they
--- were.
-pub record Ran (d : List ℕ → List ℕ) (words : List (List ℕ)) (before now : SourceView) (wires wires' : List WireView) (told : Told) : Type 0 where
-  pub words_are : IsRun words
-  pub bytes : List ℕ
-  pub fed : Fed before now bytes
-  pub lines : List Line
-  pub script : IsThinScript bytes lines
-  pub wire : WireView
-  pub wire' : WireView
-  pub first : slice_get wires 0 ≡ Some wire
-  pub others : wires' ≡ slice_set wires 0 wire'
-  pub promise : Promise d lines wire wire' told
+-- A script was run over the wires: the one that the words ask for, read to the end of the source or generated.
+pub record HasRun (words : List (List ℕ)) (before now : SourceView) (wires wires' : List WireView) (told : Told) : Type 0 where
+  pub script : Script
+  pub form : Form
+  pub limits : IsScript script
+  pub given : IsGiven words before now script form
+  pub list : List standing.Hall
+  pub halls : AreHalls script.digest told.halls list
+  pub whole : Whole (digest_by script.digest) script wires wires' told.world list told.outcomes
+  pub status : told.status ≡ status_of told.outcomes
+  pub text : told.text ≡ text_by form script told.outcomes
 
--- The words were taken, and the bytes of the source are no thin script.
-pub record Refused (words : List (List ℕ)) (before now : SourceView) : Type 0 where
-  pub words_are : IsRun words
-  pub bytes : List ℕ
-  pub fed : Fed before now bytes
-  pub script : IsNoThinScript bytes
-
-abbrev pub Happened : (List ℕ → List ℕ) → List (List ℕ) → SourceView → SourceView → List WireView → List WireView → Fate → Type 0
-Happened d words before now wires wires' (fates.Whole told) = Ran d words before now wires wires' told
-Happened d words before now wires wires' (fates.Refused refusals.Words) = (words ≡ codes "run" ∷ [] → ⊥) × (now ≡ before) × (wires' ≡ wires)
-Happened d words before now wires wires' (fates.Refused refusals.Script) = Refused words before now × (wires' ≡ wires)
-Happened d words before now wires wires' fates.Unread = IsRun words × Rose before.faults now.faults × (before.faults ≤ now.faults) × (wires' ≡ wires)
-
--- what came of the bytes that were read
-abbrev pub CameOf : {W : Type 0} → (List ℕ → List ℕ) → List ℕ → (W → WireView) → List W → List W → Fate → Type 0
-CameOf d bytes view wires wires' (fates.Whole told) = (lines : List Line) × IsThinScript bytes lines × RunsOver d lines view wires wires' told
-CameOf d bytes view wires wires' (fates.Refused refusals.Words) = ⊥
-CameOf d bytes view wires wires' (fates.Refused refusals.Script) = IsNoThinScript bytes × (wires' ≡ wires)
-CameOf d bytes view wires wires' fates.Unread = ⊥
+-- Of a want of memory nothing more is said. Where no script was run the wires are as they were.
+abbrev pub Happened : List (List ℕ) → SourceView → SourceView → List WireView → List WireView → Fate → Type 0
+Happened words before now wires wires' (fates.Ran told) = HasRun words before now wires wires' told
+Happened words before now wires wires' (fates.Refused line) = Refuses words before now line × (wires' ≡ wires)
+Happened words before now wires wires' fates.Unread = IsUnread words before now × (wires' ≡ wires)
+Happened words before now wires wires' fates.Starved = Unit {0}
 
 -- ---- what was said
 
-abbrev pub text_of : Fate → List ℕ
-text_of (fates.Whole told) = told.text
-text_of (fates.Refused refusal) = refusal_text refusal
-text_of fates.Unread = []
+-- Nothing is written where a read failed or memory was wanting. Else the whole text is written, or a part of its front
+-- where a write fails, which is then the status.
+abbrev pub Says : SinkView → SinkView → Fate → ℕ → Type 0
+Says before now (fates.Ran told) status = Spoke before now told.text told.status status
+Says before now (fates.Refused line) status = Spoke before now line 2 status
+Says before now fates.Unread status = (status ≡ 3) × (now ≡ before)
+Says before now fates.Starved status = (status ≡ 6) × (now ≡ before)
 
--- the status, where each write is taken
-abbrev pub wanted : Fate → ℕ
-wanted (fates.Whole told) = told.status
-wanted (fates.Refused refusal) = 2
-wanted fates.Unread = 3
+-- ---- what was handed out
 
-abbrev pub records_of_fate : Fate → List ThinTook
-records_of_fate (fates.Whole told) = told.records
-records_of_fate (fates.Refused refusal) = []
-records_of_fate fates.Unread = []
+pub record HandsNothing (ended : Ended) : Type 0 where
+  pub users : ended.world.users ≡ []
+  pub walls : ended.world.walls ≡ []
+  pub halls : AreHalls names.Sha ended.halls []
+  pub outcomes : ended.outcomes ≡ record { commands = []; walls = []; audit = lines.Sound 0 0 }
 
-abbrev pub signed_of_fate : Fate → List (ℕ × Op)
-signed_of_fate (fates.Whole told) = told.signed
-signed_of_fate (fates.Refused refusal) = []
-signed_of_fate fates.Unread = []
+pub record HandsRun (told : Told) (ended : Ended) : Type 0 where
+  pub world : ended.world ≡ told.world
+  pub halls : ended.halls ≡ told.halls
+  pub outcomes : ended.outcomes ≡ told.outcomes
 
--- The whole text was written, and no write failed; or a write failed, and what was written is a part of its
--- front.
-abbrev pub Spoke : SinkView → SinkView → List ℕ → ℕ → ℕ → Type 0
-Spoke before now text want status =
-    ((status ≡ want) × (now.faults ≡ before.faults) × (now.written ≡ with_more before.written text))
-    ⊎ ((status ≡ 3) × Rose before.faults now.faults × ((n : ℕ) × (n < length text) × (now.written ≡ with_more before.written (take n text))))
+abbrev pub HandsOut : Fate → Ended → Type 0
+HandsOut (fates.Ran told) ended = HandsRun told ended
+HandsOut (fates.Refused line) ended = HandsNothing ended
+HandsOut fates.Unread ended = HandsNothing ended
+HandsOut fates.Starved ended = HandsNothing ended
 
--- How a call ends: for want of memory, with no write made and nothing handed out; or by its fate.
-abbrev pub Ends : (List ℕ → List ℕ) → List (List ℕ) → SourceView → SourceView → SinkView → SinkView → List WireView → List WireView → ℕ → List ThinTook → List (ℕ × Op) → Type 0
-Ends d words source source' sink sink' wires wires' status records signed =
-    ((status ≡ 6) × (sink' ≡ sink) × (records ≡ []) × (signed ≡ []))
-    ⊎ ((fate : Fate) × Happened d words source source' wires wires' fate × Spoke sink sink' (text_of fate) (wanted fate) status × (records ≡ records_of_fate fate) × (signed ≡ signed_of_fate fate))
+-- ---- a call
+
+-- A call with these words came to one of four ends: a script was run; words or script were refused; the source couldn't be
+-- read; or memory was wanting.
+pub record Ends (words : List (List ℕ)) (source source' : SourceView) (sink sink' : SinkView)
+    (wires wires' : List WireView) (ended : Ended) : Type 0 where
+  pub fate : Fate
+  pub happened : Happened words source source' wires wires' fate
+  pub said : Says sink sink' fate ended.status
+  pub handed : HandsOut fate ended
+
+-- ---- steps
+
+module _ {W : Type 0} where
+  -- A script was run over these wires and came to this.
+  pub record Came (script : Script) (view : W → WireView) (wires : List W) (run : Run W) : Type 0 where
+    pub list : List standing.Hall
+    pub halls : AreHalls script.digest run.halls list
+    pub whole : Whole (digest_by script.digest) script (map view wires) (map view run.wires.items) run.world list
+        run.outcomes
+    pub sixteen : length run.wires.items ≡ 16
+
+  -- The script that was chosen was run over these wires and came to this, told in its form, and left these wires.
+  pub record Tells (chosen : Chosen) (view : W → WireView) (wires : List W) (told : Told) (left : List W) : Type 0 where
+    pub list : List standing.Hall
+    pub halls : AreHalls chosen.script.digest told.halls list
+    pub whole : Whole (digest_by chosen.script.digest) chosen.script (map view wires) (map view left) told.world list
+        told.outcomes
+    pub status : told.status ≡ status_of told.outcomes
+    pub text : told.text ≡ text_by chosen.form chosen.script told.outcomes
+    pub sixteen : length left ≡ 16
+
+  abbrev pub RunsOver : Chosen → (W → WireView) → List W → List W → Fate → Type 0
+  RunsOver chosen view wires wires' (fates.Ran told) = Tells chosen view wires told wires'
+  RunsOver chosen view wires wires' (fates.Refused line) = ⊥
+  RunsOver chosen view wires wires' fates.Unread = ⊥
+  RunsOver chosen view wires wires' fates.Starved = Unit {0}
+
+-- so many wires are left, unless memory was wanting
+abbrev pub HasPlaces : Fate → ℕ → Type 0
+HasPlaces fates.Starved count = Unit {0}
+HasPlaces (fates.Ran told) count = count ≡ 16
+HasPlaces (fates.Refused line) count = count ≡ 16
+HasPlaces fates.Unread count = count ≡ 16

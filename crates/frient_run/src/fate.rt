@@ -1,30 +1,27 @@
-use crate::record::{ThinSigned, ThinTooks};
+use crate::ended::Halls;
 use fr_bytes::Bytes;
+use script_form::Outcomes;
+use world_book::World;
 
-/// What a call refuses.
-#[derive(Clone, Copy, Debug, PartialEq, Eq)]
-pub enum Refusal {
-    /// The words aren't exactly `run`.
-    Words,
-    /// The bytes of the source are no thin script.
-    Script,
-}
-
-/// A whole run: its report, its status where each write is taken, its records and its signed
-/// operations.
-#[derive(Debug, Drop)]
+/// What a run came to, with the text that tells it and the status where each write is taken.
+#[derive(Drop)]
 pub struct Told {
     pub text: Bytes,
     pub status: u8,
-    pub records: ThinTooks,
-    pub signed: ThinSigned,
+    pub world: World,
+    pub halls: Halls,
+    pub outcomes: Outcomes,
 }
 
-/// What comes of a call that doesn't want memory, before its first byte is written.
-#[derive(Debug, Drop)]
+/// What comes of a call, before its first byte is written.
+#[derive(Drop)]
 pub enum Fate {
-    Whole(Told),
-    Refused(Refusal),
-    /// The source failed.
+    /// A script was run.
+    Ran(Told),
+    /// The words or the script are refused: the line that says why.
+    Refused(Bytes),
+    /// A read of the source failed.
     Unread,
+    /// An allocation was refused.
+    Starved,
 }

@@ -1,23 +1,11 @@
-//! A run of clients against a server, its audit and its report, under one call.
+//! A call of the program: the words, the source, the run of a script, its audit, and what is said of it.
 #![tactic(auto)]
 
-pub mod accounts;
-mod audit;
 mod ended;
 mod fate;
-mod fixture;
-mod input;
-mod lane;
-mod output;
-mod record;
-mod run;
-#[cfg(test)]
-mod run_tests;
-mod server;
+mod running;
+mod saying;
 mod top;
-pub mod untampered;
-mod whole;
 
-pub use ended::Ended;
-pub use record::{ThinSigned, ThinTook, ThinTooks};
-pub use top::{run_frient, run_with};
+pub use ended::{Ended, Halls};
+pub use top::run_frient;

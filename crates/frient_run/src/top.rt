@@ -1,25 +1,29 @@
-ghost use Rattle.std.specs.Prelude.{◌≡◌, ◌≢◌, [], ◌∷◌, ◌++◌, codes, length, map, IfOk, OnOk, IsTrue, ◌↔◌};
-ghost use Rattle.frient_run.specs.Ends.{Ends, Happened, IsRun, Spoke, refusal_text, CameOf, text_of, wanted, records_of_fate, signed_of_fate};
+ghost use Rattle.std.specs.Prelude.{◌≡◌, ◌≢◌, length, map};
+ghost use Rattle.frient_run.specs.Ends.{Ends, Happened, HasPlaces, RunsOver};
+ghost use Rattle.script_read.specs.Limits.{IsScript};
 
 use crate::ended::Ended;
-use crate::fate::{Fate, Refusal};
-use crate::input::{InputEnd, read_input};
-use crate::output::say;
-use crate::record::{ThinSigned, ThinTooks};
-use crate::whole::run_over;
-use fr_bytes::{NoMemory, ReadRefusal};
-use fr_digest::{Digester, Sha};
+use crate::fate::Fate;
+use crate::running::tell;
+use crate::saying::conclude;
+use fr_bytes::NoMemory;
 use fr_edges::{Sink, Source, Wire};
+use frient_script::{Chosen, Unchosen, choose};
 use std::alloc::Global;
+use std::mem;
 use std::sync::Wait;
 use std::thread::Threads;
-use thin_form::read_script;
 
-/// Reads a thin script from `source`, runs it over the first of `wires`, audits the run and writes its
-/// report to `sink`. The digest is SHA-256.
+/// A call of the program: runs the script that the words behind the program's name ask for over these wires, audits the
+/// run, and writes its report to `sink`.
 ///
-/// `words` are those behind the program's name, and `run` is the only one. The report is made whole
-/// before its first byte is written, and writing takes no memory. [`Ended`] says when each status comes.
+/// The words `run` ask for the script that `source` holds, and `run --number N` for the generated script of a number from
+/// 0 to 4,294,967,295, for which the source isn't read and a summary is written. The i-th wire is that of the i-th
+/// session of each phase; there are 16. The text is made whole before its first byte is written, and writing it takes no
+/// memory. [`Ended`] says when each status comes.
+///
+/// It starts threads, and may wait for turns; it says nothing of how long. In every status but 6 the 16 wires are in
+/// their places at the end.
 pub fn run_frient<R: Threads + Wait + Sync, S: Source, K: Sink, W: Wire + Send>(
     rt: &R,
     alloc: Global,
@@ -29,121 +33,50 @@ pub fn run_frient<R: Threads + Wait + Sync, S: Source, K: Sink, W: Wire + Send>(
     wires: &mut Vec<W>,
 ) -> Ended
     requires sixteen { length wires.old.items ≡ 16 }
-    ensures ends { Ends ⟦<Sha as Digester>⟧.digest_of (map (λ w. w.now) words.now) (S.view source.old) (S.view source.new) (K.view sink.old) (K.view sink.new) (map W.view wires.old.items) (map W.view wires.new.items) result.status result.records result.signed }
+    ensures ends { Ends (map (λ w. w.now) words.now) (S.view source.old) (S.view source.new) (K.view sink.old) (K.view sink.new) (map W.view wires.old.items) (map W.view wires.new.items) result }
     ensures places { result.status ≢ 6 → length wires.new.items ≡ 16 }
 {
-    run_with::<Sha, R, S, K, W>(rt, alloc, words, source, sink, wires)
-}
-
-/// [`run_frient`] with the digest `D`.
-pub fn run_with<D: Digester, R: Threads + Wait + Sync, S: Source, K: Sink, W: Wire + Send>(
-    _rt: &R,
-    alloc: Global,
-    words: &[&str],
-    source: &mut S,
-    sink: &mut K,
-    wires: &mut Vec<W>,
-) -> Ended
-    requires sixteen { length wires.old.items ≡ 16 }
-    ensures ends { Ends D.digest_of (map (λ w. w.now) words.now) (S.view source.old) (S.view source.new) (K.view sink.old) (K.view sink.new) (map W.view wires.old.items) (map W.view wires.new.items) result.status result.records result.signed }
-    ensures places { result.status ≢ 6 → length wires.new.items ≡ 16 }
-{
-    match fate::<D, S, W>(alloc, words, source, wires) {
-        Ok(fate) => conclude(alloc, sink, fate),
-        Err(NoMemory) => Ended {
-            status: 6,
-            records: no_records(alloc),
-            signed: none_signed(alloc),
-        },
-    }
+    let fate = fate(rt, alloc, words, source, wires);
+    conclude(alloc, sink, fate)
 }
 
 // What comes of the words and the source's bytes.
-fn fate<D: Digester, S: Source, W: Wire>(
+fn fate<R: Threads + Wait + Sync, S: Source, W: Wire + Send>(
+    rt: &R,
     alloc: Global,
     words: &[&str],
     source: &mut S,
     wires: &mut Vec<W>,
-) -> Result<Fate, NoMemory>
+) -> Fate
     requires sixteen { length wires.old.items ≡ 16 }
-    ensures happened { IfOk result (Happened D.digest_of (map (λ w. w.now) words.now) (S.view source.old) (S.view source.new) (map W.view wires.old.items) (map W.view wires.new.items)) }
-    ensures places { OnOk result (length wires.new.items ≡ 16) }
+    ensures happened { Happened (map (λ w. w.now) words.now) (S.view source.old) (S.view source.new) (map W.view wires.old.items) (map W.view wires.new.items) result }
+    ensures places { HasPlaces result (length wires.new.items) }
 {
-    if !is_run(words) {
-        return Ok(Fate::Refused(Refusal::Words));
-    }
-    match read_input(alloc, source) {
-        Ok(bytes) => fate_of_script::<D, W>(alloc, bytes.as_slice(), wires),
-        Err(InputEnd::Failed) => Ok(Fate::Unread),
-        Err(InputEnd::NoMemory) => Err(NoMemory),
+    match choose(alloc, words, source) {
+        Ok(chosen) => run_over(rt, alloc, &chosen, wires),
+        Err(Unchosen::Refused { line }) => Fate::Refused(line),
+        Err(Unchosen::Unread) => Fate::Unread,
+        Err(Unchosen::NoMemory) => Fate::Starved,
     }
 }
 
-fn is_run(words: &[&str]) -> bool
-    ensures { IsTrue result ↔ IsRun (map (λ w. w.now) words.now) }
-{
-    matches!(words, ["run"])
-}
-
-fn fate_of_script<D: Digester, W: Wire>(
+// What comes of the script that was chosen.
+fn run_over<R: Threads + Wait + Sync, W: Wire + Send>(
+    rt: &R,
     alloc: Global,
-    bytes: &[u8],
+    chosen: &Chosen,
     wires: &mut Vec<W>,
-) -> Result<Fate, NoMemory>
+) -> Fate
+    requires script { IsScript chosen.now.script }
     requires sixteen { length wires.old.items ≡ 16 }
-    ensures came { IfOk result (CameOf D.digest_of bytes.now W.view wires.old.items wires.new.items) }
-    ensures places { OnOk result (length wires.new.items ≡ 16) }
+    ensures { RunsOver chosen.now W.view wires.old.items wires.new.items result }
 {
-    match read_script(alloc, bytes) {
-        Ok(lines) => Ok(Fate::Whole(run_over::<D, W>(alloc, &lines, wires)?)),
-        Err(ReadRefusal::NotForm) => Ok(Fate::Refused(Refusal::Script)),
-        Err(ReadRefusal::NoMemory) => Err(NoMemory),
+    let taken = mem::replace(wires, Vec::new(alloc));
+    match tell(rt, alloc, chosen, taken) {
+        Ok((told, left)) => {
+            *wires = left;
+            Fate::Ran(told)
+        }
+        Err(NoMemory) => Fate::Starved,
     }
-}
-
-// Says what came of a call.
-fn conclude<K: Sink>(alloc: Global, sink: &mut K, fate: Fate) -> Ended
-    ensures spoke { Spoke (K.view sink.old) (K.view sink.new) (text_of fate) (wanted fate) result.status }
-    ensures records { result.records ≡ records_of_fate fate }
-    ensures signed { result.signed ≡ signed_of_fate fate }
-{
-    match fate {
-        Fate::Whole(told) => Ended {
-            status: say(sink, told.text.as_slice(), told.status),
-            records: told.records,
-            signed: told.signed,
-        },
-        Fate::Refused(refusal) => Ended {
-            status: say(sink, refusal_line(refusal), 2),
-            records: no_records(alloc),
-            signed: none_signed(alloc),
-        },
-        Fate::Unread => Ended {
-            status: 3,
-            records: no_records(alloc),
-            signed: none_signed(alloc),
-        },
-    }
-}
-
-#[tactic(auto, unfolding(crate::specs::Ends::refusal_text))]
-fn refusal_line(refusal: Refusal) -> &'static [u8]
-    ensures { result.now ≡ refusal_text refusal }
-{
-    match refusal {
-        Refusal::Words => b"refused words\n",
-        Refusal::Script => b"refused script NotThin\n",
-    }
-}
-
-fn no_records(alloc: Global) -> ThinTooks
-    ensures { result ≡ [] }
-{
-    ThinTooks::of(Vec::new(alloc))
-}
-
-fn none_signed(alloc: Global) -> ThinSigned
-    ensures { result ≡ [] }
-{
-    ThinSigned::of(Vec::new(alloc))
 }

@@ -1,24 +1,12 @@
 //! Wires in memory, as an object tells them.
 ghost use Rattle.std.specs.Prelude.{◌≡◌, length, IfOk};
 
+use crate::fields::numbers_of;
 use anyhow::{Context, Result};
 use fr_bytes::Bytes;
 use fr_edges::MemWire;
 use serde_json::{Map, Value};
 use std::alloc::Global;
-
-// The carries that are lost.
-fn lost(alloc: Global, list: Option<&Value>) -> Result<Vec<u32>> {
-    let mut carries = Vec::new(alloc);
-    let Some(list) = list else {
-        return Ok(carries);
-    };
-    for carry in list.as_array().context("`lose` is no list")? {
-        let carry = carry.as_u64().context("a carry is no number")?;
-        carries.push(u32::try_from(carry).ok().context("a carry is too great")?)?;
-    }
-    Ok(carries)
-}
 
 fn bytes_of(alloc: Global, digits: &Value) -> Result<Bytes> {
     let digits = digits.as_str().context("a delivery is no text")?;
@@ -68,7 +56,7 @@ fn wire_of(alloc: Global, told: Option<&Value>) -> Result<MemWire> {
     let Some(told) = told else {
         return Ok(MemWire::new(alloc, Vec::new(alloc), Vec::new(alloc)));
     };
-    let lost = lost(alloc, told.get("lose"))?;
+    let lost = numbers_of(alloc, told.get("lose"))?;
     let replaced = replaced(alloc, told.get("replace"))?;
     Ok(MemWire::new(alloc, replaced, lost))
 }

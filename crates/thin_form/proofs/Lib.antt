@@ -1,3 +1,0 @@
-pub mod MessageLemmas
-pub mod ThinScriptLemmas
-pub mod ReportLemmas

@@ -1,7 +1,0 @@
-use Rattle.std.proofs.Common.{◌≡◌, ◌++◌, take}
-use Rattle.std.specs.List.{flat_map}
-use Rattle.fr_bytes.specs.Bytes.{counted}
-use Rattle.thin_form.proofs.messages.put_texts.Given as goal
-
-abbrev pub invariant-loop-text : goal.invariant-loop-text
-invariant-loop-text l = l.out.items ≡ l.fn.out.items ++ flat_map counted (take l.text-index l.texts)

@@ -1,2 +1,0 @@
-pub mod Wall
-pub mod Turns
