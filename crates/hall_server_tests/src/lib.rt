@@ -9,4 +9,6 @@ mod replies;
 #[cfg(test)]
 mod servers;
 #[cfg(test)]
+mod turns;
+#[cfg(test)]
 mod walls;
