@@ -1,5 +1,5 @@
 -- From the run of a script to the end of a call.
-use Rattle.std.proofs.Common.{◌≡◌, ◌∙◌, ℕ, List, length, map, refl, subst, sym}
+use Rattle.std.proofs.Common.{◌≡◌, ◌∙◌, ℕ, List, length, map, subst, sym}
 use Rattle.std.proofs.lemmas.List.{length-map}
 use Rattle.fr_digest.specs.Digest.{Digest}
 use Rattle.fr_edges.specs.Source.{SourceView}
@@ -12,10 +12,14 @@ use Rattle.run_script.specs.declared.closing.Ran.{Ran}
 use Rattle.run_script.specs.Runs.{RunOf}
 use Rattle.frient_script.specs.declared.choice.Chosen.{Chosen}
 use Rattle.frient_script.specs.Choice.{IsGiven}
+use Rattle.frient_run.specs.declared.fate.Fate.{Fate}
+use Rattle.frient_run.specs.declared.fate.Fate.TheVariants as fates
 use Rattle.frient_run.specs.declared.fate.Told.{Told}
 use Rattle.frient_run.specs.declared.running.Run.{Run}
-use Rattle.frient_run.specs.Whole.{Whole, digest_by}
-use Rattle.frient_run.specs.Ends.{AreHalls, Came, HasRun, Tells}
+use Rattle.frient_run.specs.Digests.{digest_by}
+use Rattle.run_laws.specs.Whole.{Whole}
+use Rattle.run_laws.proofs.Bridging.{untouched}
+use Rattle.frient_run.specs.Ends.{AreHalls, Came, Happened, HasRun, RunsOver, Tells}
 
 pub whole_of : {D W : Type 0} (d : Digest) (view : W → WireView) (script : Script) (wires : List W) (ran : Ran D W)
     → length wires ≡ 16 → RunOf d view script wires ran
@@ -49,7 +53,7 @@ came name script view wires run list is halls whole sixteen = record {
   sixteen = sixteen;
 }
 
-pub has_run : {W : Type 0} (words : List (List ℕ)) (before now : SourceView) (chosen : Chosen) (view : W → WireView)
+has_run : {W : Type 0} (words : List (List ℕ)) (before now : SourceView) (chosen : Chosen) (view : W → WireView)
     (wires left : List W) (told : Told) → IsScript chosen.script → IsGiven words before now chosen.script chosen.form
     → Tells chosen view wires told left → HasRun words before now (map view wires) (map view left) told
 has_run words before now chosen view wires left told limits given t = record {
@@ -60,6 +64,18 @@ has_run words before now chosen view wires left told limits given t = record {
   list = t.list;
   halls = t.halls;
   whole = t.whole;
+  untouched = λ straight. untouched (digest_by chosen.script.digest) chosen.script limits (map view wires) (map view left)
+      told.world t.list told.outcomes t.whole straight;
   status = t.status;
   text = t.text;
 }
+
+-- what comes of the script that was chosen
+pub happened_over : {W : Type 0} (words : List (List ℕ)) (before now : SourceView) (chosen : Chosen) (view : W → WireView)
+    (wires left : List W) (fate : Fate) → IsScript chosen.script → IsGiven words before now chosen.script chosen.form
+    → RunsOver chosen view wires left fate → Happened words before now (map view wires) (map view left) fate
+happened_over words before now chosen view wires left (fates.Ran told) limits given t =
+    has_run words before now chosen view wires left told limits given t
+happened_over words before now chosen view wires left (fates.Refused line) limits given t = absurd t
+happened_over words before now chosen view wires left fates.Unread limits given t = absurd t
+happened_over words before now chosen view wires left fates.Starved limits given t = tt

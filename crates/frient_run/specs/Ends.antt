@@ -1,6 +1,6 @@
 -- How a call of the program ends: what came of its words, its source and its wires, what was said of it, and what was
 -- handed out.
-use Rattle.std.specs.Prelude.{◌≡◌, ℕ, ◌≤◌, List, [], length, map}
+use Rattle.std.specs.Prelude.{◌≡◌, ℕ, List, [], length, map}
 use Rattle.fr_edges.specs.Source.{SourceView}
 use Rattle.fr_edges.specs.Sink.{SinkView}
 use Rattle.fr_edges.specs.Wire.{WireView}
@@ -14,7 +14,6 @@ use Rattle.script_form.specs.declared.outcome.Outcomes.{Outcomes}
 use Rattle.script_form.specs.Report.{report_of}
 use Rattle.script_form.specs.Summary.{summary_of}
 use Rattle.script_form.specs.Status.{status_of}
-use Rattle.world_book.specs.declared.world.World.{World}
 use Rattle.frient_edges.specs.Output.{Spoke}
 use Rattle.frient_script.specs.declared.choice.Chosen.{Chosen}
 use Rattle.frient_script.specs.declared.choice.Form.{Form}
@@ -27,7 +26,9 @@ use Rattle.frient_run.specs.declared.fate.Fate.{Fate}
 use Rattle.frient_run.specs.declared.fate.Fate.TheVariants as fates
 use Rattle.frient_run.specs.declared.fate.Told.{Told}
 use Rattle.frient_run.specs.declared.running.Run.{Run}
-use Rattle.frient_run.specs.Whole.{Whole, digest_by}
+use Rattle.frient_run.specs.Digests.{digest_by}
+use Rattle.run_laws.specs.Straight.{AreStraight, IsUntouched}
+use Rattle.run_laws.specs.Whole.{Whole}
 
 -- ---- halls
 
@@ -45,7 +46,8 @@ abbrev pub text_by : Form → Script → Outcomes → List ℕ
 text_by forms.Report script outcomes = report_of script outcomes
 text_by forms.Summary script outcomes = summary_of outcomes
 
--- A script was run over the wires: the one that the words ask for, read to the end of the source or generated.
+-- A script was run over the wires: the one that the words ask for, read to the end of the source or generated. Over straight
+-- wires nothing was rejected, lost or found.
 pub record HasRun (words : List (List ℕ)) (before now : SourceView) (wires wires' : List WireView) (told : Told) : Type 0 where
   pub script : Script
   pub form : Form
@@ -54,6 +56,8 @@ pub record HasRun (words : List (List ℕ)) (before now : SourceView) (wires wir
   pub list : List standing.Hall
   pub halls : AreHalls script.digest told.halls list
   pub whole : Whole (digest_by script.digest) script wires wires' told.world list told.outcomes
+  pub untouched : AreStraight wires
+      → IsUntouched (digest_by script.digest) script wires wires' told.world list told.outcomes whole
   pub status : told.status ≡ status_of told.outcomes
   pub text : told.text ≡ text_by form script told.outcomes
 

@@ -1,2 +1,3 @@
 pub mod Ends
-pub mod Whole
+pub mod Digests
+pub mod Complete

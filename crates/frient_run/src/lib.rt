@@ -3,6 +3,7 @@
 
 mod ended;
 mod fate;
+pub mod laws;
 mod running;
 mod saying;
 mod top;

@@ -1,12 +1,9 @@
 -- The whole run of a script, and what it came to. d is the digest of strings that the script names.
 use Rattle.std.specs.Prelude.{◌≡◌, ℕ, List, length, map}
 use Rattle.std.specs.List.{AllZip}
-use Rattle.sha2.specs.Sha256.{sha256}
-use Rattle.fr_digest.specs.Digest.{Digest, short_digest}
+use Rattle.fr_digest.specs.Digest.{Digest}
 use Rattle.fr_edges.specs.Wire.{WireView}
 use Rattle.hall_core.specs.Standing as standing
-use Rattle.script_read.specs.declared.script.DigestName.{DigestName}
-use Rattle.script_read.specs.declared.script.DigestName.TheVariants as names
 use Rattle.script_read.specs.declared.script.Script.{Script}
 use Rattle.script_read.specs.Users.{has_user}
 use Rattle.script_read.specs.Walls.{has_wall}
@@ -20,10 +17,6 @@ use Rattle.run_end.specs.Ends.{TellsOf, wall_end}
 use Rattle.run_script.specs.Runs.{IsBookOf, IsHallOf, opening_run}
 use Rattle.world_book.specs.declared.world.World.{World}
 use Rattle.world_book.specs.Kept.{Kept}
-
-abbrev pub digest_by : DigestName → Digest
-digest_by names.Sha = sha256
-digest_by names.Short = short_digest
 
 -- The script's users, in rising order, did the tasks of its phases over the wires, phase by phase. The outcomes, the
 -- wires, the halls and the world are those that this leaves; the books of the world are kept, the audit tells of them, and

@@ -1,0 +1,10 @@
+pub mod Following
+pub mod Telling
+pub mod Untampered
+pub mod Listed
+pub mod HonestRun
+pub mod Standing
+pub mod Keyed
+pub mod Whole
+pub mod Straight
+pub mod Reading
