@@ -34,7 +34,7 @@ use Rattle.script_read.specs.Limits.{IsListedUser, IsListedWall, IsScript}
 use Rattle.script_read.specs.Users.{has_user}
 use Rattle.session_laws.specs.Doing.{Did, Exchange, dids, on, Heard, PlainClient, Task, all_dids, client_of, did_behind, exchanges_of, over, plain, stream, wall_of}
 use Rattle.session_laws.specs.Halves.{Delivery, Serves}
-use Rattle.session_laws.specs.Histories.{IsUser}
+use Rattle.session_laws.specs.Histories.{IsUser, Ordered}
 use Rattle.session_laws.specs.Runs.{RunView}
 use Rattle.run_phases.specs.Members.{Member, wire_at}
 use Rattle.fr_bytes.specs.Bytes.{Text}
@@ -44,6 +44,7 @@ use Rattle.key_graph.specs.KeyTree.{leaf_text}
 use Rattle.key_graph.specs.Reach.{tree_of}
 use Rattle.client_core.specs.Clients.{opening_keys}
 use Rattle.client_core.specs.Keys.{KeysView, leaf_of, member, owner, secret_of}
+use Rattle.run_phases.specs.Tasks.{numbers_from}
 use Rattle.run_start.specs.Clients.{opening_client, owned_by, owned_of, secrets_in, shared_in}
 use Rattle.run_start.proofs.Chosen.{known-user, known-wall}
 use Rattle.run_start.specs.Keys.{facts_at, keys_in, note_at}
@@ -77,6 +78,7 @@ use Rattle.op_types.specs.Kinds.{is_change}
 use Rattle.wall_law.specs.State.{state_of}
 use Rattle.wall_law.proofs.Histories.{law-stands}
 use Rattle.run_laws.proofs.Openings.{fresh-open, has-note, keeps-open, noted-at, side-on}
+use Rattle.run_laws.proofs.Phases.{in-order}
 use Rattle.run_laws.proofs.Runs.{leaves-for, user-well}
 use Rattle.run_laws.proofs.Signing.{last-later}
 use Rattle.run_laws.proofs.Tasks.{IsDoable, script-tasks}
@@ -556,6 +558,12 @@ module _ (d : Digest) (s : Script) (limits : IsScript s) (wires wires' : List Wi
             subst (λ (L : List Leaf). (k : ℕ) (leaf : Leaf) → slice_get L k ≡ Some leaf
             → is_change leaf.op.kind ≡ false → (text : Text) × IsPosted d start.client heards leaf.op text) all
             (wall-posts wall there);
+        phased = in-order d users start.client heards (facts wall) (calls wall) s.phases run.run.asked
+            (all-more (λ (h : Heard). IsDoable users walls h.task) (λ (h : Heard). IsUser users h.task.user)
+            (λ h can. can.user) heards doable)
+            (subst (Ordered users d start.client heards wall (numbers_from 1 s.phases)) (sym same) is.ordered)
+            (λ user known. (user-well d users start.client heards (facts wall) (calls wall) (honest-wall wall there) user
+            known).tells) (along wall there);
         stories = λ r L at on history.
             is-sound.stories r L at history ∙ ap (λ (v : ℕ). take r.size (play d (facts v) (calls v))) on
             ∙ ap (λ (cs : List Called). take r.size (play d (facts wall) cs)) same

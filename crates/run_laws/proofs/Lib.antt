@@ -29,4 +29,6 @@ pub mod Planning
 pub mod Rooting
 pub mod Reading
 pub mod Listing
+pub mod Spans
+pub mod Phases
 pub mod Bridging

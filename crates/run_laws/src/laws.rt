@@ -24,9 +24,10 @@ pub fn users()
         → EndsWell d facts user leaves calls c heards }
 {}
 
-/// The run of a script over straight wires: no command is rejected or lost; each ends by its user's entries in the wall's
-/// hall, declines by the hall's access list, and reads by it the posts that it shows; each record that has a history
-/// stands for the first leaves of its hall; and the audit finds all sound.
+/// The run of a script over straight wires: no command is rejected or lost; each ends by its user's entries in the
+/// wall's hall, declines by the hall's access list, reads by it the posts that it shows, and sees at least as much as
+/// those of earlier phases; each record that has a history stands for the first leaves of its hall; and the audit finds
+/// all sound.
 pub fn runs()
     ensures { (d : Digest) (script : Script) (wires wires' : List WireView) (world : World) (halls : List standing.Hall)
         (outcomes : Outcomes) (run : Whole d script wires wires' world halls outcomes) → IsScript script

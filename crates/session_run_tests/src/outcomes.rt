@@ -91,8 +91,8 @@ fn is_full(hall: &Hall<Sha>, posts: u64) -> bool {
     }
 }
 
-/// Whether each user's outcomes are those of its entries at the wall, which has no others, and on which so many commands
-/// posted. There are four users.
+/// Whether each user's outcomes are those of its entries at the wall, which has no others, and on which so many
+/// commands posted. There are four users.
 pub fn all_are_entries(hall: &Hall<Sha>, told: &[Told], posts: u64) -> bool {
     for (user, list) in told {
         if list.len() != MANY || !are_entries(hall, *user, list.as_slice()) {
